@@ -6,7 +6,7 @@ use Prim.Native.Nat.{ℕ, zero, suc, _+_, _-_, _%_, _≤_, _<_}
 use native.Mathlib.Nat.{add-comm, zero-add, zero-mod, mod-lt, mod-eq-of-lt, mod-le, mod-add-mod, add-mod-mod, add-mod-right, dvd-of-mod-eq-zero, mod-mod-of-dvd}
 use native.Mathlib.Omega.{arith}
 use lib.Dec.{eqb, leb}
-use borrow.Author.Tests.{le-leb, lt-leb, leb-true, leb-false, eq-eqb, ne-eqb, eqb-true, eqb-false}
+use borrow.Author.Tests.{le-leb, leb-true, leb-false, eq-eqb, eqb-true}
 use Rattle.counting.specs.Counting.{onward, distance, inRange}
 
 -- two tests that hold together are one

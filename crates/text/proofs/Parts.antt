@@ -1,7 +1,7 @@
 -- Facts on the parts of a text: what is cut out between two places, where a mark stands, that the walk by `until` stays in the text
 -- and goes on, and that it gives just what stands between the marks. Assumes nothing.
-use mathlib.Core.Path.{_≡_, refl}
-use mathlib.Core.Bool.{true, false, false≢true}
+use mathlib.Core.Path.{_≡_, refl, sym, ap, _∙_}
+use mathlib.Core.Bool.{true, false, cond, false≢true}
 use mathlib.Core.List.{List, [], _∷_}
 use Prim.Native.Nat.{ℕ, zero, suc, _+_, _-_, _≤_, _<_, zero-le, suc-le-suc}
 use native.Mathlib.Nat.{zero-add, sub-zero, zero-sub, suc-sub-suc}
@@ -9,7 +9,7 @@ use native.Mathlib.Numerals.{add-one}
 use native.Mathlib.Omega.{arith}
 use lib.Dec.{eqb, leb·suc-suc}
 use lib.ListN.{length, take, drop, length-take, length-drop, drop-of-length-le}
-use lib.Seq.{slice, take-all, take-length, take-nil, length-slice}
+use lib.Seq.{slice, take-all, take-take, take-length, take-nil, drop-drop, length-slice}
 use borrow.Author.Tests.{ltb-true, ltb-false}
 use Rattle.bytes.specs.Bytes
 use Rattle.bytes.specs.Bytes.{indexOf, indexAfter}
@@ -89,3 +89,34 @@ module _ (mark : ℕ) (text : List ℕ) (at to : ℕ) (onward : at ≤ to) (insi
   -- past a mark the walk has gone on
   pub next-onward : until mark text at to .closed ≡ true → at < until mark text at to .next
   next-onward e = simp e (omega arith)
+
+-- the beginning of a part is a part
+beginning : (at to n : ℕ) (text : List ℕ) → n ≤ length (slice at to text) → take n (slice at to text) ≡ slice at (at + n) text
+beginning at to n text h =
+    let whole = cut at to text in
+    let short : length (take (to - at) (drop at text)) ≤ to - at = simp length-take (omega arith) in
+    let within : n ≤ to - at = omega (arith, ap length whole) in
+    let back : at + n - at ≡ n = omega arith in
+    ap (take n) (sym whole)
+    ∙ take-take n (to - at) (drop at text) within
+    ∙ ap (λ (k : ℕ). take k (drop at text)) (sym back)
+    ∙ cut at (at + n) text
+
+-- what stands between the marks of a part: first what `until` finds, and where a mark closes it, what stands behind the mark
+pub first-part :
+    (mark : ℕ) (text : List ℕ) (at to : ℕ) →
+    split mark (slice at to text)
+    ≡ slice at (until mark text at to .end) text
+    ∷ cond (until mark text at to .closed) (split mark (slice (until mark text at to .next) to text)) []
+first-part mark text at to =
+    let part = slice at to text in
+    let n = indexOf mark part in
+    let here = beginning at to n text (index-within mark part) in
+    cases (marked mark part)
+    (λ e.
+    let on : at + (n + 1) ≡ at + n + 1 = omega arith in
+    let behind = drop-drop (n + 1) at (take to text) ∙ ap (λ (k : ℕ). drop k (take to text)) on in
+    split-closed mark part e ∙ simp (e, here, behind))
+    (λ e.
+    let all = take-all n part (ltb-false _ _ e) in
+    split-last mark part e ∙ simp e (ap (λ (s : List ℕ). s ∷ []) (sym all ∙ here)))

@@ -11,7 +11,7 @@ use Rattle.wire.specs.declared.header.HeaderRead.the-variants.{Read as H
 use Rattle.wire.specs.declared.management.Message.{Message}
 use Rattle.wire.specs.declared.management.Message.the-variants.{COO, COA, CBD, CBA, ECO, ECA, TFP, TFA, RST}
 use Rattle.wire.specs.declared.management.MessageRead.the-variants.{Read}
-use Rattle.wire.specs.Header.{sioOf, siOf, niOf, lowFirst, fromLow, labelWord, labelOf, readHeader, InRange}
+use Rattle.wire.specs.Header.{sioOf, siOf, niOf, labelWord, labelOf, readHeader, InRange}
 use Rattle.wire.specs.Management.{octetsOf, readMessage, FieldInRange}
 use Rattle.wire.proofs.Labels.{from-low-first, word-below, label-back}
 use Rattle.wire.proofs.Written.{eight}

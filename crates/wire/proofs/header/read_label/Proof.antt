@@ -1,10 +1,7 @@
 -- `wire::header::read_label` meets its contract: the word that it makes is the one that the four octets say.
 -- Assumes nothing.
 use borrow.Author.Needs.{needs}
-use mathlib.Core.Path.{ap}
-use Prim.Native.Nat.{ℕ, _+_, _*_}
 use native.Mathlib.Nat.{add-zero}
-use Rattle.wire.specs.Header.{labelOf}
 use Rattle.wire.proofs.header.read_label.Statement.{statement}
 use Rattle.wire.proofs.header.read_label.Tie as tie
 

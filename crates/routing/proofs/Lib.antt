@@ -1,0 +1,11 @@
+pub mod Access
+pub mod Arrays
+pub mod ComingBack
+pub mod Examples
+pub mod InTurn
+pub mod Laid
+pub mod Lines
+pub mod Loss
+pub mod Ranks
+pub mod Serving
+pub mod Used

@@ -1,0 +1,4 @@
+pub mod State
+pub mod Which
+pub mod Chosen
+pub mod RouteList

@@ -1,0 +1,77 @@
+-- The two laws of rows, over any stretch and any number of rows: the row stored is the row loaded, and every other row is as it
+-- was; and the area keeps its length.
+-- Assumes nothing.
+use mathlib.Core.Path.{_≡_, refl, ap, _∙_}
+use mathlib.Core.Bool.{Bool, true, false, cond}
+use mathlib.Core.List.{List, [], _∷_}
+use Prim.Native.Nat.{ℕ, zero, suc, _+_, _*_, _≤_, _<_}
+use native.Mathlib.Nat.{add-zero, mul-le-mul-left, mul-suc}
+use native.Mathlib.Omega.{arith}
+use lib.Dec.{ltb}
+use lib.ListN.{length, getD, set, length-set}
+use lib.Seq.{sets, length-sets, getD-set-same, getD-set-other}
+use borrow.Author.Tests.{lt-ltb, ltb-true, ltb-false}
+use Rattle.rows.specs.Rows.{wordAt, withRow}
+
+cases : {P : Type 0} (test : Bool) → (test ≡ true → P) → (test ≡ false → P) → P
+cases true holds fails = holds refl
+cases false holds fails = fails refl
+
+-- words set from a place on leave what stands before them
+set-after : (words area : List ℕ) (at k : ℕ) → k < at → getD (sets area at words) k 0 ≡ getD area k 0
+set-after [] area at k h = refl
+set-after (word ∷ words) area at k h =
+    set-after words (set area at word) (suc at) k (omega arith) ∙ getD-set-other area at k word 0 (omega arith)
+
+-- and what stands behind them
+set-before : (words area : List ℕ) (at k : ℕ) → at + length words ≤ k → getD (sets area at words) k 0 ≡ getD area k 0
+set-before [] area at k h = refl
+set-before (word ∷ words) area at k h =
+    set-before words (set area at word) (suc at) k (omega arith) ∙ getD-set-other area at k word 0 (omega arith)
+
+-- and stand in their places
+set-there : (words area : List ℕ) (at k : ℕ) → k < length words → at + length words ≤ length area → getD (sets area at words) (at + k) 0 ≡ getD words k 0
+set-there [] area at k h room = absurd (omega arith)
+set-there (word ∷ words) area at zero h room =
+    rw add-zero (set-after words (set area at word) (suc at) at (omega arith) ∙ getD-set-same area at word 0 (omega arith))
+set-there (word ∷ words) area at (suc k) h room =
+    let same : at + suc k ≡ suc at + k = omega arith in
+    let fits : suc at + length words ≤ length (set area at word) = simp length-set (omega arith) in
+    rw same (set-there words (set area at word) (suc at) k (omega arith) fits)
+
+-- a row ends where the next begins
+next-row : (stretch row : ℕ) → stretch * suc row ≡ stretch * row + stretch
+next-row stretch row = mul-suc stretch row
+
+-- and before any later one
+row-before : (stretch row later : ℕ) → row < later → stretch * row + stretch ≤ stretch * later
+row-before stretch row later h = omega (arith, next-row stretch row, mul-le-mul-left stretch h)
+
+module _ (rows stretch : ℕ) (area : List ℕ) (row : ℕ) (words : List ℕ) (short : length words ≤ stretch) where
+  -- the row stored is the row loaded
+  pub row-same : row < rows → length area ≡ stretch * rows → (place : ℕ) → place < length words → wordAt rows stretch (withRow rows stretch area row words) row place ≡ getD words place 0
+  row-same h size place k =
+      let room : stretch * row + length words ≤ length area = omega (arith, row-before stretch row rows h) in
+      simp (lt-ltb row rows h) (set-there words area (stretch * row) place k room)
+
+  other-words : (other : ℕ) → (other ≡ row → ⊥) → (place : ℕ) → place < stretch → getD (sets area (stretch * row) words) (stretch * other + place) 0 ≡ getD area (stretch * other + place) 0
+  other-words other apart place k =
+      cases (ltb other row)
+      (λ e.
+      let before = row-before stretch other row (ltb-true _ _ e) in
+      set-after words area (stretch * row) (stretch * other + place) (omega arith))
+      (λ e.
+      let behind : row < other = omega (arith, ltb-false other row e, apart) in
+      let before = row-before stretch row other behind in
+      set-before words area (stretch * row) (stretch * other + place) (omega arith))
+
+  -- every other row is as it was
+  pub row-other : (other : ℕ) → (other ≡ row → ⊥) → (place : ℕ) → place < stretch → wordAt rows stretch (withRow rows stretch area row words) other place ≡ wordAt rows stretch area other place
+  row-other other apart place k =
+      cases (ltb row rows)
+      (λ e. simp e (ap (λ (x : ℕ). cond (ltb other rows) x 0) (other-words other apart place k)))
+      (λ e. simp e)
+
+  -- and the area is as long as it was
+  pub row-length : length (withRow rows stretch area row words) ≡ length area
+  row-length = cases (ltb row rows) (λ e. simp e (length-sets area (stretch * row) words)) (λ e. simp e)

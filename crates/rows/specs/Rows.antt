@@ -1,0 +1,41 @@
+-- Rows of numbers in a lent area: so many stretches of equal length, a row being the first words of one.
+use Prim.Native.Nat.{ℕ, _+_, _*_}
+use mathlib.Core.Bool.{cond}
+use mathlib.Core.List.{List, [], _∷_}
+use lib.Dec.{ltb}
+use lib.ListN.{getD}
+use lib.Seq.{sets}
+use Rattle.rows.specs.declared.slot.Slot.{Slot}
+use Rattle.rows.specs.declared.span.Span.{Span}
+
+-- the word at a place of a row, 0 of a row that there is not
+abbrev pub wordAt : ℕ → ℕ → List ℕ → ℕ → ℕ → ℕ
+wordAt rows stretch area row place = cond (ltb row rows) (getD area (stretch * row + place) 0) 0
+
+-- the area with a row's words set one after the other, all else as it was; a row that there is not changes nothing
+abbrev pub withRow : ℕ → ℕ → List ℕ → ℕ → List ℕ → List ℕ
+withRow rows stretch area row words = cond (ltb row rows) (sets area (stretch * row) words) area
+
+-- a ring's row in `spans`, of 35: its head and how many slots it holds
+abbrev pub spanAt : List ℕ → ℕ → Span
+spanAt spans ring = record { head = wordAt 35 2 spans ring 0; count = wordAt 35 2 spans ring 1 }
+
+abbrev pub withSpan : List ℕ → ℕ → Span → List ℕ
+withSpan spans ring span = withRow 35 2 spans ring (span .head ∷ span .count ∷ [])
+
+-- a slot's row in `rows`, of 256: the message's arrival number, its heading (0 for a user message), the point that it goes to, its
+-- SLS or SLC, and its field, or how many octets it has
+abbrev pub slotAt : List ℕ → ℕ → Slot
+slotAt rows slot =
+    record {
+      arrival = wordAt 256 8 rows slot 0;
+      heading = wordAt 256 8 rows slot 1;
+      point = wordAt 256 8 rows slot 2;
+      sls = wordAt 256 8 rows slot 3;
+      field = wordAt 256 8 rows slot 4;
+    }
+
+abbrev pub withSlot : List ℕ → ℕ → Slot → List ℕ
+withSlot rows slot message =
+    withRow 256 8 rows slot
+    (message .arrival ∷ message .heading ∷ message .point ∷ message .sls ∷ message .field ∷ [])

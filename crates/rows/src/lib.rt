@@ -1,0 +1,3 @@
+// Rows of numbers in lent arrays: loaded as a small struct, changed, and stored.
+pub mod slot;
+pub mod span;

@@ -1,0 +1,67 @@
+-- What a line says: "`node code ni`; `set number adjacent`; `link number set slc`; `route destination set rank`", and its fault 20 or
+-- 21. Whether the numbers are in range is asked where they are put into the plan.
+use Prim.Native.Nat.{ℕ}
+use mathlib.Core.Bool.{Bool, cond}
+use mathlib.Core.List.{List, [], _∷_}
+use lib.ListN.{length, getD}
+use lib.Dec.{eqb}
+use Rattle.text.specs.Part.{sameText, split, tab}
+use Rattle.text.specs.Decimal.{numberOf}
+use Rattle.text.specs.declared.decimal.Number.{Number}
+use Rattle.text.specs.declared.decimal.Number.the-variants.{Value, Wrong}
+use Rattle.statement.specs.declared.Word.{Word}
+use Rattle.statement.specs.declared.Word.the-variants.{Node, Set, Link, Route, Other}
+use Rattle.statement.specs.declared.Said.{Said}
+use Rattle.statement.specs.declared.Said.the-variants.{Says, Faulty}
+
+-- `node`, `set`, `link`, `route`
+abbrev pub wordOf : List ℕ → Word
+wordOf text =
+    cond (sameText text (110 ∷ 111 ∷ 100 ∷ 101 ∷ [])) Node
+    (cond (sameText text (115 ∷ 101 ∷ 116 ∷ [])) Set
+    (cond (sameText text (108 ∷ 105 ∷ 110 ∷ 107 ∷ [])) Link
+    (cond (sameText text (114 ∷ 111 ∷ 117 ∷ 116 ∷ 101 ∷ [])) Route
+    Other)))
+
+-- how many fields such a line has, its word among them
+abbrev pub fieldsOf : Word → ℕ
+fieldsOf Node = 3
+fieldsOf Set = 3
+fieldsOf Link = 4
+fieldsOf Route = 4
+fieldsOf Other = 0
+
+-- "21 not a plain decimal (no leading zero)", of at most 64 bits: a longer one is out of every range
+abbrev pub withNumber : Number → (ℕ → Said) → Said
+withNumber (Value n) says = says n
+withNumber Wrong says = Faulty 21
+
+abbrev pub number : List ℕ → Number
+number field = numberOf field 18446744073709551615
+
+-- a word and its numbers
+abbrev pub says : Word → List ℕ → List ℕ → List ℕ → Said
+says word first second third =
+    withNumber (number first)
+    (λ a. withNumber (number second) (λ b. withNumber (number third) (λ c. Says (record { word = word; first = a; second = b; third = c }))))
+
+-- a line by its fields: "20 wrong word, field count"; where there is no third number it is 0
+abbrev pub saidBy : List (List ℕ) → Said
+saidBy fields =
+    let word = wordOf (getD fields 0 []) in
+    cond (eqb (length fields) (fieldsOf word))
+    (says word (getD fields 1 []) (getD fields 2 []) (getD fields 3 (48 ∷ [])))
+    (Faulty 20)
+
+-- "Lines of decimal fields parted by tabs"
+abbrev pub readStatement : List ℕ → Said
+readStatement line = saidBy (split tab line)
+
+-- how many fields there are, by which of the first four a tab closes; 5 for more than four
+abbrev pub counted : Bool → Bool → Bool → Bool → ℕ
+counted zero one two three = cond zero (cond one (cond two (cond three 5 4) 3) 2) 1
+
+-- the same by the count of the fields and the first four of them
+abbrev pub saysCounted : ℕ → Word → List ℕ → List ℕ → List ℕ → Said
+saysCounted count word first second third =
+    cond (eqb count (fieldsOf word)) (says word first second (cond (eqb count 3) (48 ∷ []) third)) (Faulty 20)
