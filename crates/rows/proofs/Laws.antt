@@ -13,7 +13,8 @@ use lib.Seq.{sets, length-sets, getD-set-same, getD-set-other}
 use borrow.Author.Tests.{lt-ltb, ltb-true, ltb-false}
 use Rattle.rows.specs.Rows.{wordAt, withRow}
 
-cases : {P : Type 0} (test : Bool) → (test ≡ true → P) → (test ≡ false → P) → P
+-- a test taken apart into its two outcomes, each with its equation
+pub cases : {P : Type 0} (test : Bool) → (test ≡ true → P) → (test ≡ false → P) → P
 cases true holds fails = holds refl
 cases false holds fails = fails refl
 

@@ -1,0 +1,14 @@
+pub mod Cases
+pub mod Runs
+pub mod Steps
+pub mod Messages
+pub mod Spans
+pub mod Queues
+pub mod Sums
+pub mod Tallies
+pub mod Held
+pub mod Moves
+pub mod Places
+pub mod KindsApart
+pub mod FreshStore
+pub mod ReadBack
