@@ -13,7 +13,7 @@ use borrow.Author.Tests.{le-ltb, leb-true, leb-false, eq-eqb, ne-eqb}
 use Rattle.text.specs.declared.part.Part.{Part}
 use Rattle.text.specs.Part.{lf, marked, lineAt, split}
 use Rattle.text.specs.Decimal.{isEmpty}
-use Rattle.text.proofs.Cases.{cases}
+use borrow.Table.Steps.{cases}
 use Rattle.text.proofs.Parts.{cut-none, first-part, split-last, next-onward, next-within}
 use Rattle.plan.specs.declared.data.Plan.{Plan}
 use Rattle.plan.specs.declared.add.Added.{Added}

@@ -1,5 +1,4 @@
 pub mod Access
-pub mod Arrays
 pub mod ComingBack
 pub mod Examples
 pub mod InTurn

@@ -10,7 +10,7 @@ use lib.ListN.{length, length-append}
 use borrow.Author.Tests.{lt-ltb, ltb-true}
 use Rattle.text.specs.Decimal.{digitsOn, decimalOf}
 use Rattle.text.specs.Part.{tab, lf}
-use Rattle.text.proofs.Cases.{cases}
+use borrow.Table.Steps.{cases}
 use Rattle.plan.specs.declared.data.Plan.{Plan}
 use Rattle.routing.specs.RouteList.{inRow, headerLine, linkWord, linkOf, wordOf, codeOf, lineOf, linesFrom, listOf}
 

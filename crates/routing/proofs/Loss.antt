@@ -6,7 +6,7 @@ use Prim.Native.Nat.{ℕ, _+_, _%_}
 use lib.Dec.{eqb, ltb}
 use lib.ListN.{length}
 use borrow.Author.Tests.{eqb-true, eqb-false}
-use Rattle.text.proofs.Cases.{cases}
+use borrow.Table.Steps.{cases}
 use Rattle.plan.specs.declared.data.Plan.{Plan}
 use Rattle.plan.specs.declared.data.Route.{Route}
 use Rattle.routing.specs.declared.state.Need.{Need}

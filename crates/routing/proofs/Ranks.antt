@@ -8,7 +8,7 @@ use lib.Dec.{ltb}
 use lib.ListN.{length, getD, drop, drop-of-length-le, List·getD-eq-default}
 use lib.Seq.{drop-cons}
 use borrow.Author.Tests.{lt-ltb, le-ltb}
-use Rattle.text.proofs.Cases.{cases}
+use borrow.Table.Steps.{cases}
 use Rattle.plan.specs.declared.data.Destination.{Destination}
 use Rattle.plan.specs.declared.data.Plan.{Plan}
 use Rattle.plan.specs.declared.data.Route.{Route}

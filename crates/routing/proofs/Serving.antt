@@ -10,7 +10,7 @@ use lib.Dec.{ltb}
 use lib.ListN.{length, getD, take, drop, length-append, length-take, length-drop, take-append-drop, drop-of-length-le, List·getD-append}
 use lib.Seq.{take-length, drop-length, drop-cons, take-suc, getD-append-add, getD-take, getD-drop}
 use borrow.Author.Tests.{lt-ltb, ltb-true, ltb-false}
-use Rattle.text.proofs.Cases.{cases}
+use borrow.Table.Steps.{cases}
 use Rattle.routing.specs.declared.state.Need.{Need}
 use Rattle.routing.specs.State.{serves}
 use Rattle.routing.specs.Which.{none, Proper, goingRound, firstServing, someServes}

@@ -2,7 +2,7 @@
 -- was; and the area keeps its length.
 -- Assumes nothing.
 use mathlib.Core.Path.{_≡_, refl, ap, _∙_}
-use mathlib.Core.Bool.{Bool, true, false, cond}
+use mathlib.Core.Bool.{cond}
 use mathlib.Core.List.{List, [], _∷_}
 use Prim.Native.Nat.{ℕ, zero, suc, _+_, _*_, _≤_, _<_}
 use native.Mathlib.Nat.{add-zero, mul-le-mul-left, mul-suc}
@@ -11,12 +11,8 @@ use lib.Dec.{ltb}
 use lib.ListN.{length, getD, set, length-set}
 use lib.Seq.{sets, length-sets, getD-set-same, getD-set-other}
 use borrow.Author.Tests.{lt-ltb, ltb-true, ltb-false}
+use borrow.Table.Steps.{cases}
 use Rattle.rows.specs.Rows.{wordAt, withRow}
-
--- a test taken apart into its two outcomes, each with its equation
-pub cases : {P : Type 0} (test : Bool) → (test ≡ true → P) → (test ≡ false → P) → P
-cases true holds fails = holds refl
-cases false holds fails = fails refl
 
 -- words set from a place on leave what stands before them
 set-after : (words area : List ℕ) (at k : ℕ) → k < at → getD (sets area at words) k 0 ≡ getD area k 0

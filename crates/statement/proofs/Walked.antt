@@ -10,7 +10,7 @@ use lib.ListN.{length}
 use borrow.Author.Tests.{ne-eqb}
 use Rattle.text.specs.declared.part.Part.{Part}
 use Rattle.text.specs.Part.{tab, marked, fieldAt, split}
-use Rattle.text.proofs.Cases.{cases}
+use borrow.Table.Steps.{cases}
 use Rattle.text.proofs.Parts.{first-part, split-closed, split-last}
 use lib.Seq.{slice}
 use Rattle.statement.specs.declared.Word.{Word}

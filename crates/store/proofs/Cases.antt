@@ -5,7 +5,7 @@ use mathlib.Core.Bool.{Bool, true, false, cond, false≢true}
 use Prim.Native.Nat.{ℕ, _≤_, _<_}
 use lib.Dec.{ltb}
 use borrow.Author.Tests.{ltb-true, ltb-false}
-use Rattle.rows.proofs.Laws.{cases}
+use borrow.Table.Steps.{cases}
 
 -- what fails either way fails
 pub cond-same : (test : Bool) → cond test false false ≡ false

@@ -17,7 +17,7 @@ use Rattle.store.specs.Ring.{cell, countOf, entry, queue}
 use Rattle.store.specs.Fresh.{emptied, inOrder, listed, freshSpans, freshRings}
 use Rattle.store.specs.Sound.{tally, sum, held, is, user, management, Sound, Kinds}
 use Rattle.store.proofs.Runs.{run-length, run-same, run-at}
-use Rattle.rows.proofs.Laws.{cases}
+use borrow.Table.Steps.{cases}
 use Rattle.store.proofs.Spans.{span-same, span-other, span-length}
 use Rattle.store.proofs.Queues.{queue-none}
 use Rattle.store.proofs.Moves.{count-part}

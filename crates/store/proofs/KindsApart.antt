@@ -11,7 +11,7 @@ use borrow.Author.Tests.{eqb-true, eqb-false, ltb-true, ltb-false, not-true}
 use Rattle.store.specs.Ring.{countOf, queue, takeOf, spansTaken, spansPut, ringsPut}
 use Rattle.store.specs.Move.{spansMoved, ringsMoved}
 use Rattle.store.specs.Sound.{tally, sum, held, is, user, management, Sound, Kinds, Suits}
-use Rattle.rows.proofs.Laws.{cases}
+use borrow.Table.Steps.{cases}
 use Rattle.store.proofs.Spans.{taken-length}
 use Rattle.store.proofs.Queues.{queue-length, found-some, taken-head, taken-other, put-other}
 use Rattle.store.proofs.Sums.{sum-ones, sum-two}

@@ -12,7 +12,7 @@ use Rattle.store.specs.Ring.{countOf, queue, takeOf, spansTaken, roomIn,
 use Rattle.store.specs.Move.{spansMoved, ringsMoved}
 use Rattle.store.specs.Sound.{bit, sum, held, is, Sound}
 use Rattle.store.proofs.Steps.{no-ring, room-there}
-use Rattle.rows.proofs.Laws.{cases}
+use borrow.Table.Steps.{cases}
 use Rattle.store.proofs.Spans.{taken-length, put-length}
 use Rattle.store.proofs.Queues.{found-some, taken-head, put-queue}
 use Rattle.store.proofs.Sums.{sum-part, sum-ones}

@@ -10,7 +10,7 @@ use borrow.Author.Tests.{eq-eqb, eqb-true, eqb-false}
 use Rattle.store.specs.Ring.{countOf, queue}
 use Rattle.store.specs.Sound.{tally, held, is, Sound}
 use Rattle.store.specs.Place.{Place}
-use Rattle.rows.proofs.Laws.{cases}
+use borrow.Table.Steps.{cases}
 use Rattle.store.proofs.Spans.{ring-there}
 use Rattle.store.proofs.Queues.{queue-length}
 use Rattle.store.proofs.Sums.{sum-part, sum-parts, sum-some}

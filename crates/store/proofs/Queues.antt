@@ -17,7 +17,7 @@ use Rattle.store.specs.declared.ring.Taken.{Taken}
 use Rattle.store.specs.Run.{run}
 use Rattle.store.specs.Ring.{cell, countOf, entry, queue, one, atOf, takeOf, spansTaken, roomIn, spansPut, ringsPut}
 use Rattle.store.proofs.Runs.{run-length, run-same, run-end, run-at}
-use Rattle.rows.proofs.Laws.{cases}
+use borrow.Table.Steps.{cases}
 use Rattle.store.proofs.Spans.{taken-same, taken-span, taken-count, put-same, put-span, put-count, room-ring, room-count}
 
 -- a queue has as many slots as its ring counts

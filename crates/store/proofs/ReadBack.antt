@@ -15,7 +15,7 @@ use Rattle.store.specs.Write.{Write, slotOf, written, rowOf, rowsWith, o
 use Rattle.store.specs.Sound.{Sound}
 use Rattle.store.proofs.Runs.{run-same, run-of}
 use Rattle.store.proofs.Messages.{fits-not-slot, fits-not-size}
-use Rattle.rows.proofs.Laws.{cases}
+use borrow.Table.Steps.{cases}
 use Rattle.store.proofs.Cases.{only-below}
 
 module _ (rows : List ℕ) (slot : ℕ) (message : Slot) where

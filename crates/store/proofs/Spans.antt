@@ -12,7 +12,7 @@ use Rattle.rows.specs.Rows.{spanAt, withSpan}
 use Rattle.rows.specs.declared.span.Span.{Span}
 use Rattle.rows.proofs.Laws.{row-same, row-other, row-length}
 use Rattle.store.specs.Ring.{countOf, headGone, spansTaken, roomIn, endGained, spansPut}
-use Rattle.rows.proofs.Laws.{cases}
+use borrow.Table.Steps.{cases}
 use Rattle.store.proofs.Cases.{only-below}
 use Rattle.store.proofs.Steps.{no-ring, room-past, room-full}
 

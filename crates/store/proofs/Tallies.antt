@@ -10,7 +10,7 @@ use lib.ListN.{length, getD}
 use borrow.Author.Tests.{lt-ltb, le-ltb, ltb-true, ltb-false, eqb-true, eqb-false}
 use Rattle.store.specs.Run.{run}
 use Rattle.store.specs.Sound.{bit, tally, sum, is}
-use Rattle.rows.proofs.Laws.{cases}
+use borrow.Table.Steps.{cases}
 use Rattle.store.proofs.Sums.{sum-none, sum-add}
 
 -- the tally of a list with a slot more at its end

@@ -13,7 +13,8 @@ use borrow.Author.Tests.{lt-ltb, le-ltb, ltb-true, ltb-false, le-leb, lt-leb, le
 use Rattle.text.specs.Decimal.{isDigit, allDigits, isPlain, withDigit, valueOn, digitOn, numberOf, digitsOn, decimalOf}
 use Rattle.text.specs.declared.decimal.Number.{Number}
 use Rattle.text.specs.declared.decimal.Number.the-variants.{Value, Wrong}
-use Rattle.text.proofs.Cases.{cases, inside}
+use borrow.Table.Steps.{cases}
+use Rattle.text.proofs.Ranges.{inside}
 
 -- the number so far, and a digit more at a time
 unfoldable pub read : Number → List ℕ → ℕ → Number

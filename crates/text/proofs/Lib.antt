@@ -1,5 +1,5 @@
 pub mod Areas
-pub mod Cases
+pub mod Ranges
 pub mod Decimals
 pub mod Octets
 pub mod Parts

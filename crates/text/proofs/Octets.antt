@@ -11,7 +11,8 @@ use lib.ListN.{length, drop, getD}
 use borrow.Author.Tests.{lt-ltb, le-ltb, ltb-true, ltb-false}
 use Rattle.text.specs.Hex.{nibble, isHex, octetsOf, readable, countOf, filled, glyph, hexOf}
 use Rattle.text.specs.declared.hex.Octets.the-variants.{Wrong}
-use Rattle.text.proofs.Cases.{cases, inside, below, above}
+use borrow.Table.Steps.{cases}
+use Rattle.text.proofs.Ranges.{inside, below, above}
 
 -- a pair of digits for each octet
 pub octets-length : (s : List ℕ) → length (octetsOf s) ≡ length s / 2

@@ -14,7 +14,7 @@ use borrow.Author.Tests.{ltb-true, ltb-false}
 use Rattle.bytes.specs.Bytes
 use Rattle.bytes.specs.Bytes.{indexOf, indexAfter}
 use Rattle.text.specs.Part.{marked, until, split}
-use Rattle.text.proofs.Cases.{cases}
+use borrow.Table.Steps.{cases}
 
 -- a part cut out by its length is the part cut out by its end
 pub cut : (at to : ℕ) (text : List ℕ) → take (to - at) (drop at text) ≡ slice at to text

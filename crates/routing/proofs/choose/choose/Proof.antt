@@ -14,7 +14,7 @@ use Rattle.plan.specs.declared.data.Route.{Route}
 use Rattle.routing.specs.State as State
 use Rattle.plan.specs.Data.{noRoute}
 use Rattle.routing.specs.Which.{Proper, inTurn, linkFor, chosen}
-use Rattle.routing.proofs.Arrays.{unmapped}
+use Rattle.plan.proofs.Tables.{unmapped}
 use Rattle.routing.proofs.Ranks.{onward, no-destination, past-ranks, rank-passed, rank-taken}
 use Rattle.routing.proofs.Serving.{walk, walk-on, walk-found, walk-end, serves-proper}
 use Rattle.routing.proofs.choose.choose.Statement.{statement}

@@ -7,7 +7,7 @@ use Prim.Native.Nat.{_≤_}
 use native.Mathlib.Omega.{arith}
 use lib.ListN.{length}
 use borrow.Author.Tests.{not-true, not-false}
-use Rattle.routing.proofs.Arrays.{unmapped}
+use Rattle.plan.proofs.Tables.{unmapped}
 use Rattle.routing.proofs.InTurn.{nothing, no-set}
 use Rattle.routing.proofs.choose.round_of.Statement.{statement}
 use Rattle.routing.proofs.choose.round_of.Tie as tie

@@ -10,7 +10,7 @@ use mathlib.Core.Bool.{true}
 use mathlib.Core.Logic.{⊎-elim}
 use borrow.Author.Tests.{ltb-true, ltb-false, le-leb}
 use Rattle.text.specs.Decimal.{withDigit}
-use Rattle.text.proofs.Cases.{inside, below, above}
+use Rattle.text.proofs.Ranges.{inside, below, above}
 use Rattle.text.proofs.Decimals.{above-top}
 use Rattle.text.proofs.decimal.with_digit.Statement.{statement}
 use Rattle.text.proofs.decimal.with_digit.Tie as tie

@@ -5,7 +5,7 @@ use mathlib.Core.Path.{sym, _∙_}
 use native.Mathlib.Omega.{arith}
 use borrow.Author.Tests.{leb-true, leb-false}
 use mathlib.Core.Logic.{⊎-elim}
-use Rattle.text.proofs.Cases.{below, above}
+use Rattle.text.proofs.Ranges.{below, above}
 use Rattle.text.proofs.Octets.{digit-says, small-says, capital-says, none-says}
 use Rattle.text.proofs.hex.nibble.Statement.{statement}
 use Rattle.text.proofs.hex.nibble.Tie as tie
