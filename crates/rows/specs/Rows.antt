@@ -1,10 +1,11 @@
 -- Rows of numbers in a lent area: so many stretches of equal length, a row being the first words of one.
-use Prim.Native.Nat.{ℕ, _+_, _*_}
-use mathlib.Core.Bool.{cond}
+use Prim.Native.Nat.{ℕ, _+_, _*_, _%_}
+use mathlib.Core.Bool.{Bool, cond, _&&_}
 use mathlib.Core.List.{List, [], _∷_}
 use lib.Dec.{ltb}
-use lib.ListN.{getD}
+use lib.ListN.{getD, set}
 use lib.Seq.{sets}
+use Rattle.rows.specs.declared.link.LinkRecord.{LinkRecord}
 use Rattle.rows.specs.declared.slot.Slot.{Slot}
 use Rattle.rows.specs.declared.span.Span.{Span}
 
@@ -39,3 +40,40 @@ abbrev pub withSlot : List ℕ → ℕ → Slot → List ℕ
 withSlot rows slot message =
     withRow 256 8 rows slot
     (message .arrival ∷ message .heading ∷ message .point ∷ message .sls ∷ message .field ∷ [])
+
+-- a link's record in `links`, of 32: whatever stands in a word, it says one of the numbers that there can be
+abbrev pub recordAt : List ℕ → ℕ → LinkRecord
+recordAt links link =
+    record {
+      state = wordAt 32 8 links link 0 % 4;
+      acknowledged = wordAt 32 8 links link 1 % 128;
+      received = wordAt 32 8 links link 2 % 128;
+      sent = wordAt 32 8 links link 3 % 128;
+      timer = wordAt 32 8 links link 4 % 4;
+      t3 = ltb 0 (wordAt 32 8 links link 5);
+      code = wordAt 32 8 links link 6 % 64;
+    }
+
+-- 1 for a flag that is set, 0 for one that isn't
+abbrev pub word : Bool → ℕ
+word on = cond on 1 0
+
+abbrev pub withRecord : List ℕ → ℕ → LinkRecord → List ℕ
+withRecord links link known =
+    withRow 32 8 links link
+    (known .state
+    ∷ known .acknowledged
+    ∷ known .received
+    ∷ known .sent
+    ∷ known .timer
+    ∷ word (known .t3)
+    ∷ known .code
+    ∷ [])
+
+-- a flag of a destination in `marks`, of 64: whether its word isn't 0
+abbrev pub flagAt : List ℕ → ℕ → ℕ → Bool
+flagAt marks destination place = ltb destination 64 && (ltb place 8 && ltb 0 (getD marks (8 * destination + place) 0))
+
+abbrev pub withFlag : List ℕ → ℕ → ℕ → Bool → List ℕ
+withFlag marks destination place on =
+    cond (ltb destination 64 && ltb place 8) (set marks (8 * destination + place) (word on)) marks

@@ -149,7 +149,7 @@ pub fn read_message(octets: &[u8]) -> MessageRead
 }
 
 // The message listed under a heading, with what the two octets behind it say.
-fn listed(heading: u8, low: u8, high: u8) -> MessageRead
+pub fn listed(heading: u8, low: u8, high: u8) -> MessageRead
     ensures { λ r. ⌜ r ≡ Management.listed heading low high ⌝ }
 {
     let fsn = low % 128;

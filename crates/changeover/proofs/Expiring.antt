@@ -1,0 +1,45 @@
+-- What the expiry of T1 or T2 leaves: all as it was where it is refused, else the link is out and its sent messages are dropped.
+-- Assumes nothing.
+use mathlib.Core.Path.{_≡_, ap, _∙_}
+use mathlib.Core.List.{List}
+use lib.Dec.{leb}
+use borrow.Author.Tests.{ne-eqb}
+use borrow.Table.Steps.{cases}
+use Prim.Native.Nat.{ℕ, _≤_, _<_}
+use Rattle.plan.specs.declared.data.Plan.{Plan}
+use Rattle.rows.specs.declared.link.LinkRecord.{LinkRecord}
+use Rattle.rows.specs.Rows.{recordAt}
+use Rattle.replies.specs.declared.Answer.{Answer}
+use Rattle.replies.specs.Reply.{first, plain, done}
+use Rattle.replies.specs.Areas.{Areas, areas, Leaves}
+use Rattle.ending.specs.declared.Cut.{Cut}
+use Rattle.ending.specs.End.{cutUnknown, outOfService}
+use Rattle.changeover.specs.Timer.{replyOf, expired}
+use Rattle.replies.proofs.Judging.{leaves-refused, leaves-done}
+use Rattle.ending.proofs.Ended.{EndLeaves, out-whole}
+
+-- a timer that is neither T1 nor T2
+pub another-timer : (plan : Plan) (links : List ℕ) (link timer : ℕ) (reports : List ℕ) → (timer ≡ 1 → ⊥) → (timer ≡ 2 → ⊥)
+    → 1 ≡ replyOf plan links link timer reports
+unfolding replyOf first
+another-timer plan links link timer reports not-t1 not-t2 =
+    cases (leb 32 link) (λ e. simp e) (λ e. simp (e, ne-eqb timer 1 not-t1, ne-eqb timer 2 not-t2))
+
+module _ (plan : Plan) (a : Areas) (link timer reply : ℕ) (is : reply ≡ replyOf plan (a .links) link timer (a .reports)) where
+  pub expiry-refused : 0 < reply → (answer : Answer) → answer ≡ plain reply → Leaves (expired plan a link timer) answer a
+  unfolding expired
+  expiry-refused =
+      leaves-refused reply (replyOf plan (a .links) link timer (a .reports)) is
+      (outOfService plan a link (cutUnknown (recordAt (a .links) link)))
+      a
+
+  pub goes-out : reply ≤ 0 → (known : LinkRecord) → known ≡ recordAt (a .links) link → (parts : Cut) → parts ≡ cutUnknown known
+      → (count : ℕ) (reports links spans rings : List ℕ) → EndLeaves plan a link parts count reports links spans rings
+      → (answer : Answer) → answer ≡ done count
+      → Leaves (expired plan a link timer) answer (areas links (a .marks) spans rings (a .rows) (a .arrivals) reports)
+  unfolding expired
+  goes-out none known loaded parts cut count reports links spans rings left answer says =
+      let meant = cutUnknown (recordAt (a .links) link) in
+      leaves-done reply (replyOf plan (a .links) link timer (a .reports)) is (outOfService plan a link meant) a none answer
+      (areas links (a .marks) spans rings (a .rows) (a .arrivals) reports)
+      (out-whole plan a link parts count reports links spans rings left answer says meant (cut ∙ ap cutUnknown loaded))

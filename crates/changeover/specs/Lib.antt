@@ -1,0 +1,2 @@
+pub mod Fail
+pub mod Timer

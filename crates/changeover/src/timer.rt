@@ -1,0 +1,72 @@
+// The timers T1 and T2 of a changeover.
+use ending::cut_unknown;
+use ending::end_service;
+use lookup::is_link;
+use plan::data::Plan;
+use replies::Answer;
+use replies::done;
+use replies::plain;
+use reports::short;
+use rows::link::load_link;
+ghost use mathlib.Core.Path.{_≡_};
+ghost use mathlib.Core.List.{[]};
+ghost use Rattle.replies.specs.Areas.{areas, Leaves};
+ghost use Rattle.changeover.specs.Timer as Timer;
+
+// The reply.
+fn expire_reply(plan: Plan, links: &[u32; 256], link: u8, timer: u8, reports: &[u64]) -> u8
+    ensures { λ r. ⌜ r ≡ Timer.replyOf plan (now (links .entry)) link timer (now (reports .entry)) ⌝ }
+{
+    if 32 <= link {
+        return 1;
+    }
+    if timer < 1 {
+        return 1;
+    }
+    if 2 < timer {
+        return 1;
+    }
+    if short(reports) {
+        return 1;
+    }
+    if !is_link(plan, link) {
+        return 2;
+    }
+    let known = load_link(links, link);
+    if known.timer != timer {
+        return 5;
+    }
+    0
+}
+
+// T1 or T2 of a link expires.
+pub fn expire(
+    plan: Plan,
+    links: &mut [u32; 256],
+    marks: &[u32; 512],
+    spans: &mut [u16; 70],
+    rings: &mut [u8; 8960],
+    rows: &[u64; 2048],
+    link: u8,
+    timer: u8,
+    reports: &mut [u64],
+) -> Answer
+    ensures { λ r. ⌜ Leaves (Timer.expired plan (areas (now (links .entry)) (now (marks .entry)) (now (spans .entry)) (now (rings .entry)) (now (rows .entry)) [] (now (reports .entry))) link timer) r (areas (now (links .exit)) (now (marks .entry)) (now (spans .exit)) (now (rings .exit)) (now (rows .entry)) [] (now (reports .exit))) ⌝ }
+{
+    let reply = expire_reply(plan, links, link, timer, reports);
+    if 0 < reply {
+        return plain(reply);
+    }
+    let known = load_link(links, link);
+    done(end_service(
+        plan,
+        links,
+        marks,
+        spans,
+        rings,
+        rows,
+        link,
+        cut_unknown(known),
+        reports,
+    ))
+}

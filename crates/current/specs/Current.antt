@@ -1,0 +1,10 @@
+-- The set that a destination uses.
+use Prim.Native.Nat.{ℕ}
+use mathlib.Core.List.{List}
+use Rattle.plan.specs.declared.data.Plan.{Plan}
+use Rattle.lookup.specs.Lookup.{setOf}
+use Rattle.access.specs.Way.{currentLink}
+
+-- "its current set": that of its current link
+unfoldable pub currentSet : Plan → List ℕ → List ℕ → ℕ → ℕ
+currentSet plan links marks destination = setOf plan (currentLink plan links marks destination 0)

@@ -1,0 +1,2 @@
+pub mod Current
+pub mod Flags

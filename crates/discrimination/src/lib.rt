@@ -1,0 +1,96 @@
+// Discrimination: what a message is to this node, before any state is looked at.
+use plan::data::Plan;
+use wire::header::Header;
+use wire::header::HeaderRead;
+use wire::header::Label;
+use wire::header::read_header;
+use wire::management::Message;
+use wire::management::MessageRead;
+use wire::management::read_message;
+ghost use mathlib.Core.Path.{_≡_};
+ghost use Rattle.discrimination.specs.Discrimination as Discrimination;
+
+// A management message for us, and who sent it with which SLC.
+pub struct Order {
+    pub point: u16,
+    pub slc: u8,
+    pub message: Message,
+}
+
+pub enum Came {
+    // Reply 3.
+    Malformed,
+    // Reply 4: its NI isn't ours.
+    Foreign,
+    // For our users.
+    Delivered,
+    // For our own management.
+    Managed(Order),
+    // For another point.
+    Passed(Label),
+}
+
+// A message for our code.
+fn ours(plan: Plan, header: Header, message: &[u8]) -> Came
+    ensures { λ r. ⌜ r ≡ Discrimination.ours plan header (now (message .entry)) ⌝ }
+{
+    let label = header.label;
+    if 0 < header.si {
+        return if header.ni == plan.ni {
+            Came::Delivered
+        } else {
+            Came::Foreign
+        };
+    }
+    let MessageRead::Read(read) = read_message(message) else {
+        return Came::Malformed;
+    };
+    if header.ni == plan.ni {
+        Came::Managed(Order {
+            point: label.opc,
+            slc: label.sls,
+            message: read,
+        })
+    } else {
+        Came::Foreign
+    }
+}
+
+// A message from a link.
+pub fn from_link(plan: Plan, message: &[u8]) -> Came
+    ensures { λ r. ⌜ r ≡ Discrimination.fromLink plan (now (message .entry)) ⌝ }
+{
+    let HeaderRead::Read(header) = read_header(message) else {
+        return Came::Malformed;
+    };
+    let label = header.label;
+    if label.dpc == plan.code {
+        return ours(plan, header, message);
+    }
+    if header.ni == plan.ni {
+        Came::Passed(label)
+    } else {
+        Came::Foreign
+    }
+}
+
+// A message from the host.
+pub fn from_host(plan: Plan, message: &[u8]) -> Came
+    ensures { λ r. ⌜ r ≡ Discrimination.fromHost plan (now (message .entry)) ⌝ }
+{
+    let HeaderRead::Read(header) = read_header(message) else {
+        return Came::Malformed;
+    };
+    let label = header.label;
+    if header.si == 0 {
+        return Came::Malformed;
+    }
+    if label.opc != plan.code {
+        return Came::Malformed;
+    }
+    if header.ni == plan.ni {
+        Came::Passed(label)
+    } else {
+        Came::Foreign
+    }
+}

@@ -1,0 +1,36 @@
+-- What `ending::end_service` tells of each area makes up the outcome of a link that goes out.
+-- Assumes nothing.
+use mathlib.Core.Path.{_≡_, ap, _∙_}
+use mathlib.Core.List.{List}
+use Prim.Native.Nat.{ℕ}
+use Rattle.plan.specs.declared.data.Plan.{Plan}
+use Rattle.replies.specs.declared.Answer.{Answer}
+use Rattle.replies.specs.Reply.{done}
+use Rattle.replies.specs.Areas.{Areas, areas, outcome}
+use Rattle.queueing.specs.Leave.{state}
+use Rattle.ending.specs.declared.Cut.{Cut}
+use Rattle.ending.specs.End.{linksOut, ended, outOfService}
+
+module _ (plan : Plan) (a : Areas) (link : ℕ) (parts : Cut) where
+  -- the count of reports and the areas are those that a link's end leaves, in the order of the contract
+  abbrev pub EndLeaves : ℕ → List ℕ → List ℕ → List ℕ → List ℕ → Type 0
+  EndLeaves count reports links spans rings =
+      let now = ended plan (a .links) (a .marks) (a .rows) link parts (state (a .spans) (a .rings) (a .reports) 0) in
+      (count ≡ now .log .count)
+      × ((reports ≡ now .log .area)
+      × ((links ≡ linksOut (a .links) link) × ((spans ≡ now .queues .spans) × (rings ≡ now .queues .rings))))
+
+  pub parts-whole : (count : ℕ) (reports links spans rings : List ℕ) → EndLeaves count reports links spans rings
+      → outcome (done count) (areas links (a .marks) spans rings (a .rows) (a .arrivals) reports) ≡ outOfService plan a link parts
+  unfolding outOfService
+  parts-whole count reports links spans rings left =
+      simp (left .0, left .1 .0, left .1 .1 .0, left .1 .1 .1 .0, left .1 .1 .1 .1)
+
+  -- by the answer, and by what is meant to become of the queue
+  pub out-whole : (count : ℕ) (reports links spans rings : List ℕ) → EndLeaves count reports links spans rings
+      → (answer : Answer) → answer ≡ done count → (meant : Cut) → parts ≡ meant
+      → outcome answer (areas links (a .marks) spans rings (a .rows) (a .arrivals) reports) ≡ outOfService plan a link meant
+  out-whole count reports links spans rings left answer says meant same =
+      ap (λ (r : Answer). outcome r (areas links (a .marks) spans rings (a .rows) (a .arrivals) reports)) says
+      ∙ parts-whole count reports links spans rings left
+      ∙ ap (λ (p : Cut). outOfService plan a link p) same

@@ -1,0 +1,140 @@
+// A management message for us: what each of the nine does.
+use discrimination::Order;
+use numbers::take_message;
+use orders::ask::ask_cbd;
+use orders::ask::ask_coa;
+use orders::ask::ask_coo;
+use orders::ask::ask_eca;
+use orders::ask::ask_eco;
+use orders::ask::ask_rst;
+use orders::carry::carry_out;
+use orders::step::Step;
+use orders::step::nothing;
+use plan::data::Plan;
+use replies::Answer;
+use replies::done;
+use replies::plain;
+use rerouting::mark::transfer;
+use waiting::answer_wait;
+use waiting::answers;
+use wire::management::Message;
+ghost use mathlib.Core.Path.{_≡_};
+ghost use mathlib.Core.List.{[]};
+ghost use Rattle.replies.specs.Areas.{areas, Leaves};
+ghost use Rattle.managing.specs.Managed as Managed;
+
+// A CBA.
+fn answer_by(
+    plan: Plan,
+    links: &mut [u32; 256],
+    arriving: u8,
+    fsn: u8,
+    point: u16,
+    slc: u8,
+    code: u8,
+) -> Answer
+    ensures { λ r. ⌜ Leaves (Managed.answeredBy plan arriving fsn point slc code (areas (now (links .entry)) [] [] [] [] [] [])) r (areas (now (links .exit)) [] [] [] [] [] []) ⌝ }
+{
+    let counts = answers(plan, links, point, slc, code);
+    take_message(links, arriving, fsn);
+    if !counts {
+        return plain(11);
+    }
+    answer_wait(plan, links, point, slc);
+    done(0)
+}
+
+// What a message asks that is answered or ends a changeover.
+fn ask(
+    plan: Plan,
+    links: &[u32; 256],
+    marks: &[u32; 512],
+    arriving: u8,
+    fsn: u8,
+    order: Order,
+) -> Step
+    ensures { λ r. ⌜ r ≡ Managed.asked plan (now (links .entry)) (now (marks .entry)) arriving fsn (order .point) (order .slc) (order .message) ⌝ }
+{
+    let point = order.point;
+    let slc = order.slc;
+    let message = order.message;
+    match message {
+        Message::COO(f) => ask_coo(plan, links, arriving, fsn, point, slc, f),
+        Message::COA(f) => ask_coa(plan, links, point, slc, f),
+        Message::ECO => ask_eco(plan, links, point, slc),
+        Message::ECA => ask_eca(plan, links, point, slc),
+        Message::CBD(code) => ask_cbd(plan, point, slc, code),
+        Message::RST(x) => ask_rst(plan, links, marks, point, x),
+        Message::CBA(_) => nothing(),
+        Message::TFP(_) => nothing(),
+        Message::TFA(_) => nothing(),
+    }
+}
+
+// What a message does that came over a link with a number.
+pub fn manage(
+    plan: Plan,
+    links: &mut [u32; 256],
+    marks: &mut [u32; 512],
+    spans: &mut [u16; 70],
+    rings: &mut [u8; 8960],
+    rows: &mut [u64; 2048],
+    arrivals: &mut [u64; 1],
+    arriving: u8,
+    fsn: u8,
+    order: Order,
+    reports: &mut [u64],
+) -> Answer
+    ensures { λ r. ⌜ Leaves (Managed.managed plan arriving fsn (order .point) (order .slc) (order .message) (areas (now (links .entry)) (now (marks .entry)) (now (spans .entry)) (now (rings .entry)) (now (rows .entry)) (now (arrivals .entry)) (now (reports .entry)))) r (areas (now (links .exit)) (now (marks .exit)) (now (spans .exit)) (now (rings .exit)) (now (rows .exit)) (now (arrivals .exit)) (now (reports .exit))) ⌝ }
+{
+    let message = order.message;
+    match message {
+        Message::CBA(code) => answer_by(plan, links, arriving, fsn, order.point, order.slc, code),
+        Message::TFP(x) => transfer(
+            plan,
+            links,
+            marks,
+            spans,
+            rings,
+            rows,
+            arrivals,
+            arriving,
+            fsn,
+            order.point,
+            x,
+            true,
+            reports,
+        ),
+        Message::TFA(x) => transfer(
+            plan,
+            links,
+            marks,
+            spans,
+            rings,
+            rows,
+            arrivals,
+            arriving,
+            fsn,
+            order.point,
+            x,
+            false,
+            reports,
+        ),
+        _ => {
+            let step = ask(plan, links, marks, arriving, fsn, order);
+            carry_out(
+                plan,
+                links,
+                marks,
+                spans,
+                rings,
+                rows,
+                arrivals,
+                arriving,
+                fsn,
+                step,
+                reports,
+            )
+        }
+    }
+}

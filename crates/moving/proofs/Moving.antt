@@ -1,0 +1,105 @@
+-- What a move, or a release, of one message leaves, from what the code finds there.
+-- Assumes nothing.
+use mathlib.Core.Path.{_≡_, sym, ap, _∙_}
+use mathlib.Core.Bool.{true, false}
+use mathlib.Core.List.{List}
+use Prim.Native.Nat.{ℕ, _%_, _≤_, _<_}
+use borrow.Author.Tests.{lt-ltb, le-ltb, eq-eqb, ne-eqb}
+use Rattle.plan.specs.declared.data.Plan.{Plan}
+use Rattle.rows.specs.Rows.{slotAt}
+use Rattle.rows.specs.declared.slot.Slot.{Slot}
+use Rattle.store.specs.declared.ring.Taken.{Taken}
+use Rattle.store.specs.Ring.{atOf, takeOf}
+use Rattle.routing.specs.declared.state.Need.{Need}
+use Rattle.routing.specs.Which.{none}
+use Rattle.access.specs.Way.{forUsers, forManagement, wayOf}
+use Rattle.queueing.specs.Head.{Queues, headOf, moved}
+use Rattle.queueing.specs.Leave.{State, droppedOne}
+use Rattle.moving.specs.Move.{pointOf, needOf, goesTo, movedOne, apart, releasedOne}
+
+-- slots below 192 need what user messages need, the others what management messages do
+pub users-need : (slot : ℕ) → slot < 192 → forUsers ≡ needOf slot
+users-need slot h = simp (lt-ltb slot 192 h)
+
+pub managements-need : (slot : ℕ) → 192 ≤ slot → forManagement none ≡ needOf slot
+managements-need slot h = simp (le-ltb slot 192 h)
+
+-- what the code found at the first place of a ring is its head
+is-head : (queues : Queues) (ring : ℕ) (head : Taken) → head ≡ atOf (queues .spans) (queues .rings) ring 0
+    → head ≡ headOf queues ring
+unfolding headOf takeOf
+is-head queues ring head looked = looked
+
+-- the state after a move, of which nothing is reported
+abbrev pub movedTo : State → ℕ → ℕ → State
+movedTo now from to = record { queues = moved (now .queues) from to; log = now .log }
+
+module _ (plan : Plan) (links marks rows : List ℕ) where
+  -- the way of a message by its row is where it goes to
+  pub way-goes : (slot : ℕ) (known : Slot) → known ≡ slotAt rows slot → (need : Need) → need ≡ needOf slot → (link : ℕ)
+      → link ≡ wayOf plan links marks need (known .point % 16384) (known .sls % 16)
+      → link ≡ goesTo plan links marks rows slot
+  unfolding goesTo
+  way-goes slot known loaded need needed link way =
+      way
+      ∙ ap (λ (n : Need). wayOf plan links marks n (known .point % 16384) (known .sls % 16)) needed
+      ∙ ap (λ (s : Slot). wayOf plan links marks (needOf slot) (s .point % 16384) (s .sls % 16)) loaded
+
+  -- a ring was looked at
+  module _
+      (now : State)
+      (ring : ℕ)
+      (head : Taken)
+      (looked : head ≡ atOf (now .queues .spans) (now .queues .rings) ring 0) where
+    -- where it has no head nothing moves
+    pub none-moved : head .found ≡ false → now ≡ movedOne plan links marks rows ring now
+    unfolding movedOne
+    none-moved gone =
+        let is = is-head (now .queues) ring head looked in
+        let found : headOf (now .queues) ring .found ≡ false = sym (ap (λ (t : Taken). t .found) is) ∙ gone in
+        simp found
+
+    -- a head goes to its link
+    module _ (there : head .found ≡ true) (link : ℕ) (goes : link ≡ goesTo plan links marks rows (head .slot)) where
+      found : headOf (now .queues) ring .found ≡ true
+      found = sym (ap (λ (t : Taken). t .found) (is-head (now .queues) ring head looked)) ∙ there
+
+      going : goesTo plan links marks rows (headOf (now .queues) ring .slot) ≡ link
+      going =
+          sym
+          (goes ∙ ap (λ (t : Taken). goesTo plan links marks rows (t .slot)) (is-head (now .queues) ring head looked))
+
+      pub head-moved : link < 32 → movedTo now ring link ≡ movedOne plan links marks rows ring now
+      unfolding movedOne
+      head-moved h = simp (found, going, lt-ltb link 32 h)
+
+      -- "one with no route is dropped, reason 1"
+      pub head-dropped : 32 ≤ link → droppedOne rows ring 1 now ≡ movedOne plan links marks rows ring now
+      unfolding movedOne
+      head-dropped h = simp (found, going, le-ltb link 32 h)
+
+  -- those held apart were looked at, and the row of the first was loaded
+  module _
+      (now : State)
+      (point : ℕ)
+      (head : Taken)
+      (looked : head ≡ atOf (now .queues .spans) (now .queues .rings) apart 0)
+      (known : Slot)
+      (loaded : known ≡ slotAt rows (head .slot)) where
+    goal-point : pointOf rows (headOf (now .queues) apart .slot) ≡ known .point % 16384
+    goal-point =
+        sym
+        (ap (λ (s : Slot). s .point % 16384) loaded
+        ∙ ap (λ (t : Taken). pointOf rows (t .slot)) (is-head (now .queues) apart head looked))
+
+    -- one for the point moves
+    pub this-released : known .point % 16384 ≡ point
+        → movedOne plan links marks rows apart now ≡ releasedOne plan links marks rows point now
+    unfolding releasedOne
+    this-released same = simp (eq-eqb _ point (goal-point ∙ same))
+
+    -- another goes behind the others
+    pub other-kept : (known .point % 16384 ≡ point → ⊥)
+        → movedTo now apart apart ≡ releasedOne plan links marks rows point now
+    unfolding releasedOne
+    other-kept differs = simp (ne-eqb _ point (λ same. differs (sym goal-point ∙ same)))

@@ -1,0 +1,89 @@
+-- `moving::move_all` meets its contract. The loop's invariant: what is left to move comes to the whole. The measure is what is left.
+-- Assumes nothing.
+use borrow.Author.Needs.{needs}
+use native.Mathlib.Omega.{arith}
+use mathlib.Core.Path.{_≡_, refl, ap, _∙_}
+use Prim.Native.Nat.{ℕ}
+use lib.ListN.{length}
+use Rattle.queueing.specs.Head.{repeat}
+use Rattle.queueing.specs.Leave.{state}
+use Rattle.queueing.proofs.Turns.{turn-done, turns-done}
+use Rattle.queueing.proofs.States.{all-whole, all-same}
+use Rattle.moving.specs.Move.{movedOne, movedAll}
+use Rattle.moving.proofs.move_all.Statement.{statement}
+use Rattle.moving.proofs.move_all.Tie as tie
+
+abbrev Inv-loop : tie.InvT-loop
+Inv-loop plan links marks spans₀ rings₀ rows ring reports₀ told left₀ reported₀ spans rings reports left reported =
+    (length reports ≡ length reports₀)
+    × (repeat (movedOne plan links marks rows ring) left (state spans rings reports reported)
+    ≡ movedAll plan links marks rows ring (state spans₀ rings₀ reports₀ told))
+
+abbrev μ-loop : tie.MeasureT-loop
+μ-loop plan links marks spans₀ rings₀ rows ring reports₀ told left₀ reported₀ spans rings reports left reported = left
+
+count-requires : tie.Need-count-requires Inv-loop μ-loop
+count-requires c κs = search needs
+
+loop-holds : tie.Need-loop-holds Inv-loop μ-loop
+unfolding movedAll
+loop-holds c =
+    let a = c .before .before .before .args in
+    let step = movedOne (a .plan) (a .links .now) (a .marks .now) (a .rows .now) (a .ring) in
+    let start = state (a .spans .now) (a .rings .now) (a .reports .now) (a .told) in
+    (refl, ap (λ (n : ℕ). repeat step n start) (c .count .ensures))
+
+sub-left : tie.Need-sub-left Inv-loop μ-loop
+sub-left c = search needs
+
+move-one-requires : tie.Need-move-one-requires Inv-loop μ-loop
+move-one-requires c κs = search needs
+
+loop-less : tie.Need-loop-less Inv-loop μ-loop
+loop-less c = search needs
+
+loop-again : tie.Need-loop-again Inv-loop μ-loop
+loop-again c =
+    let at-turn = c .before .before .before .before .before .before in
+    let l = at-turn .before .loop in
+    let a = at-turn .before .before .before .before .before .args in
+    let m = c .before .before .move-one in
+    let step = movedOne (a .plan) (a .links .now) (a .marks .now) (a .rows .now) (a .ring) in
+    let now = state (l .spans) (l .rings) (l .reports) (l .reported) in
+    let start = state (a .spans .now) (a .rings .now) (a .reports .now) (a .told) in
+    let whole = movedAll (a .plan) (a .links .now) (a .marks .now) (a .rows .now) (a .ring) start in
+    let areas = m .last .1 .1 .1 in
+    let next = all-whole (areas .0) (areas .1 .0) (areas .1 .1 .1 .1 .0) (m .result) (step now) (m .ensures) in (
+      c .before .reports .given ∙ l .inv .0,
+      turn-done step (l .left) now whole (l .inv .1) (omega arith) next,
+    )
+
+same-length : tie.Need-same-length Inv-loop μ-loop
+same-length c = search needs
+
+returns : tie.Need-returns Inv-loop μ-loop
+returns c =
+    let l = c .before .loop in
+    let a = c .before .before .before .before .before .args in
+    let step = movedOne (a .plan) (a .links .now) (a .marks .now) (a .rows .now) (a .ring) in
+    let now = state (l .spans) (l .rings) (l .reports) (l .reported) in
+    let start = state (a .spans .now) (a .rings .now) (a .reports .now) (a .told) in
+    let whole = movedAll (a .plan) (a .links .now) (a .marks .now) (a .rows .now) (a .ring) start in
+    all-same (l .spans) (l .rings) (l .reports) (l .reported) now whole
+    (turns-done step (l .left) now whole (l .inv .1) (omega arith))
+    (refl, (refl, (refl, refl)))
+
+pub move-all-spec : {M : Type 1} → statement M
+move-all-spec =
+    tie.close
+    (tie.spec
+    Inv-loop
+    μ-loop
+    count-requires
+    loop-holds
+    sub-left
+    move-one-requires
+    loop-less
+    loop-again
+    same-length
+    returns)

@@ -1,0 +1,62 @@
+-- "To move is to queue each message, in order and with its arrival number, by the rule above, management messages by theirs; one
+-- with no route is dropped, reason 1."
+use Prim.Native.Nat.{ℕ, _%_}
+use mathlib.Core.Bool.{cond}
+use mathlib.Core.List.{List}
+use lib.Dec.{ltb, eqb}
+use Rattle.plan.specs.declared.data.Plan.{Plan}
+use Rattle.rows.specs.Rows.{slotAt}
+use Rattle.store.specs.Ring.{countOf}
+use Rattle.routing.specs.declared.state.Need.{Need}
+use Rattle.routing.specs.Which.{none}
+use Rattle.access.specs.Way.{forUsers, forManagement, wayOf}
+use Rattle.queueing.specs.Head.{headOf, moved, repeat}
+use Rattle.queueing.specs.Leave.{State, droppedOne}
+
+-- the point that the message in a slot goes to
+abbrev pub pointOf : List ℕ → ℕ → ℕ
+pointOf rows slot = slotAt rows slot .point % 16384
+
+-- its SLS, or SLC
+abbrev pub slsOf : List ℕ → ℕ → ℕ
+slsOf rows slot = slotAt rows slot .sls % 16
+
+-- what it needs of a link: slots below 192 hold user messages
+abbrev pub needOf : ℕ → Need
+needOf slot = cond (ltb slot 192) forUsers (forManagement none)
+
+-- the link that it goes to now
+unfoldable pub goesTo : Plan → List ℕ → List ℕ → List ℕ → ℕ → ℕ
+goesTo plan links marks rows slot = wayOf plan links marks (needOf slot) (pointOf rows slot) (slsOf rows slot)
+
+-- the first message of a ring moves, or is dropped
+unfoldable pub movedOne : Plan → List ℕ → List ℕ → List ℕ → ℕ → State → State
+movedOne plan links marks rows ring now =
+    let head = headOf (now .queues) ring in
+    let link = goesTo plan links marks rows (head .slot) in
+    cond (head .found)
+    (cond (ltb link none)
+    (record { queues = moved (now .queues) ring link; log = now .log })
+    (droppedOne rows ring 1 now))
+    now
+
+-- all messages of a ring move, "in order"
+unfoldable pub movedAll : Plan → List ℕ → List ℕ → List ℕ → ℕ → State → State
+movedAll plan links marks rows ring now =
+    repeat (movedOne plan links marks rows ring) (countOf (now .queues .spans) ring) now
+
+-- the ring of the messages held apart
+abbrev pub apart : ℕ
+apart = 32
+
+-- "held apart until it ends, then move": the first of those held apart moves if it is for the point, else it goes behind the others
+unfoldable pub releasedOne : Plan → List ℕ → List ℕ → List ℕ → ℕ → State → State
+releasedOne plan links marks rows point now =
+    cond (eqb (pointOf rows (headOf (now .queues) apart .slot)) point)
+    (movedOne plan links marks rows apart now)
+    (record { queues = moved (now .queues) apart apart; log = now .log })
+
+-- each is looked at once, so that the others keep their order
+unfoldable pub released : Plan → List ℕ → List ℕ → List ℕ → ℕ → State → State
+released plan links marks rows point now =
+    repeat (releasedOne plan links marks rows point) (countOf (now .queues .spans) apart) now

@@ -1,0 +1,154 @@
+// To move: each message of a queue goes, in order and with its arrival number, to the link that the rule gives it now.
+use access::way::for_management;
+use access::way::for_users;
+use access::way::way;
+use plan::data::Plan;
+use queueing::head::move_head;
+use queueing::leave::drop_head;
+use rows::slot::load_slot;
+use store::ring::at;
+use store::ring::count;
+ghost use mathlib.Core.Path.{_≡_};
+ghost use Rattle.queueing.specs.Leave.{state};
+ghost use Rattle.moving.specs.Move as Move;
+
+// The link that the message in a slot goes to, 32 where it has none.
+fn goes_to(plan: Plan, links: &[u32; 256], marks: &[u32; 512], rows: &[u64; 2048], slot: u8) -> u8
+    ensures { λ r. ⌜ r ≡ Move.goesTo plan (now (links .entry)) (now (marks .entry)) (now (rows .entry)) slot ⌝ }
+{
+    let known = load_slot(rows, slot);
+    let point = (known.point % 16384) as u16;
+    let sls = (known.sls % 16) as u8;
+    if slot < 192 {
+        way(plan, links, marks, for_users(), point, sls)
+    } else {
+        way(plan, links, marks, for_management(32), point, sls)
+    }
+}
+
+// The first message of a ring moves, or is dropped with reason 1; how many reports there are now.
+fn move_one(
+    plan: Plan,
+    links: &[u32; 256],
+    marks: &[u32; 512],
+    spans: &mut [u16; 70],
+    rings: &mut [u8; 8960],
+    rows: &[u64; 2048],
+    ring: u8,
+    reports: &mut [u64],
+    told: usize,
+) -> usize
+    ensures { λ r. ⌜ r ≡ Move.movedOne plan (now (links .entry)) (now (marks .entry)) (now (rows .entry)) ring (state (now (spans .entry)) (now (rings .entry)) (now (reports .entry)) told) .log .count ⌝ }
+    ensures { λ r. ⌜ now (reports .exit) ≡ Move.movedOne plan (now (links .entry)) (now (marks .entry)) (now (rows .entry)) ring (state (now (spans .entry)) (now (rings .entry)) (now (reports .entry)) told) .log .area ⌝ }
+    ensures { λ r. ⌜ now (spans .exit) ≡ Move.movedOne plan (now (links .entry)) (now (marks .entry)) (now (rows .entry)) ring (state (now (spans .entry)) (now (rings .entry)) (now (reports .entry)) told) .queues .spans ⌝ }
+    ensures { λ r. ⌜ now (rings .exit) ≡ Move.movedOne plan (now (links .entry)) (now (marks .entry)) (now (rows .entry)) ring (state (now (spans .entry)) (now (rings .entry)) (now (reports .entry)) told) .queues .rings ⌝ }
+{
+    let head = at(spans, rings, ring, 0);
+    if !head.found {
+        return told;
+    }
+    let link = goes_to(plan, links, marks, rows, head.slot);
+    if 32 <= link {
+        return drop_head(spans, rings, rows, ring, 1, reports, told);
+    }
+    move_head(spans, rings, ring, link);
+    told
+}
+
+// All messages of a ring move; how many reports there are now.
+pub fn move_all(
+    plan: Plan,
+    links: &[u32; 256],
+    marks: &[u32; 512],
+    spans: &mut [u16; 70],
+    rings: &mut [u8; 8960],
+    rows: &[u64; 2048],
+    ring: u8,
+    reports: &mut [u64],
+    told: usize,
+) -> usize
+    ensures { λ r. ⌜ r ≡ Move.movedAll plan (now (links .entry)) (now (marks .entry)) (now (rows .entry)) ring (state (now (spans .entry)) (now (rings .entry)) (now (reports .entry)) told) .log .count ⌝ }
+    ensures { λ r. ⌜ now (reports .exit) ≡ Move.movedAll plan (now (links .entry)) (now (marks .entry)) (now (rows .entry)) ring (state (now (spans .entry)) (now (rings .entry)) (now (reports .entry)) told) .log .area ⌝ }
+    ensures { λ r. ⌜ now (spans .exit) ≡ Move.movedAll plan (now (links .entry)) (now (marks .entry)) (now (rows .entry)) ring (state (now (spans .entry)) (now (rings .entry)) (now (reports .entry)) told) .queues .spans ⌝ }
+    ensures { λ r. ⌜ now (rings .exit) ≡ Move.movedAll plan (now (links .entry)) (now (marks .entry)) (now (rows .entry)) ring (state (now (spans .entry)) (now (rings .entry)) (now (reports .entry)) told) .queues .rings ⌝ }
+{
+    let mut left = count(spans, ring);
+    let mut reported = told;
+    while 0 < left {
+        left -= 1;
+        reported = move_one(
+            plan,
+            links,
+            marks,
+            spans,
+            rings,
+            rows,
+            ring,
+            reports,
+            reported,
+        );
+    }
+    reported
+}
+
+// The first message held apart moves if it is for the point, and else goes to the end of those held apart.
+fn release_one(
+    plan: Plan,
+    links: &[u32; 256],
+    marks: &[u32; 512],
+    spans: &mut [u16; 70],
+    rings: &mut [u8; 8960],
+    rows: &[u64; 2048],
+    point: u16,
+    reports: &mut [u64],
+    told: usize,
+) -> usize
+    ensures { λ r. ⌜ r ≡ Move.releasedOne plan (now (links .entry)) (now (marks .entry)) (now (rows .entry)) point (state (now (spans .entry)) (now (rings .entry)) (now (reports .entry)) told) .log .count ⌝ }
+    ensures { λ r. ⌜ now (reports .exit) ≡ Move.releasedOne plan (now (links .entry)) (now (marks .entry)) (now (rows .entry)) point (state (now (spans .entry)) (now (rings .entry)) (now (reports .entry)) told) .log .area ⌝ }
+    ensures { λ r. ⌜ now (spans .exit) ≡ Move.releasedOne plan (now (links .entry)) (now (marks .entry)) (now (rows .entry)) point (state (now (spans .entry)) (now (rings .entry)) (now (reports .entry)) told) .queues .spans ⌝ }
+    ensures { λ r. ⌜ now (rings .exit) ≡ Move.releasedOne plan (now (links .entry)) (now (marks .entry)) (now (rows .entry)) point (state (now (spans .entry)) (now (rings .entry)) (now (reports .entry)) told) .queues .rings ⌝ }
+{
+    let head = at(spans, rings, 32, 0);
+    let known = load_slot(rows, head.slot);
+    if known.point % 16384 == point as u64 {
+        return move_one(plan, links, marks, spans, rings, rows, 32, reports, told);
+    }
+    move_head(spans, rings, 32, 32);
+    told
+}
+
+// The messages held apart for a point move, and the others keep their order; how many reports there are now.
+pub fn release(
+    plan: Plan,
+    links: &[u32; 256],
+    marks: &[u32; 512],
+    spans: &mut [u16; 70],
+    rings: &mut [u8; 8960],
+    rows: &[u64; 2048],
+    point: u16,
+    reports: &mut [u64],
+    told: usize,
+) -> usize
+    ensures { λ r. ⌜ r ≡ Move.released plan (now (links .entry)) (now (marks .entry)) (now (rows .entry)) point (state (now (spans .entry)) (now (rings .entry)) (now (reports .entry)) told) .log .count ⌝ }
+    ensures { λ r. ⌜ now (reports .exit) ≡ Move.released plan (now (links .entry)) (now (marks .entry)) (now (rows .entry)) point (state (now (spans .entry)) (now (rings .entry)) (now (reports .entry)) told) .log .area ⌝ }
+    ensures { λ r. ⌜ now (spans .exit) ≡ Move.released plan (now (links .entry)) (now (marks .entry)) (now (rows .entry)) point (state (now (spans .entry)) (now (rings .entry)) (now (reports .entry)) told) .queues .spans ⌝ }
+    ensures { λ r. ⌜ now (rings .exit) ≡ Move.released plan (now (links .entry)) (now (marks .entry)) (now (rows .entry)) point (state (now (spans .entry)) (now (rings .entry)) (now (reports .entry)) told) .queues .rings ⌝ }
+{
+    let mut left = count(spans, 32);
+    let mut reported = told;
+    while 0 < left {
+        left -= 1;
+        reported = release_one(
+            plan,
+            links,
+            marks,
+            spans,
+            rings,
+            rows,
+            point,
+            reports,
+            reported,
+        );
+    }
+    reported
+}

@@ -1,0 +1,138 @@
+// The single entry: every event of the node.
+use changeback::service::into_service;
+use changeover::fail::fail;
+use changeover::timer::expire;
+use passing::host::send_host;
+use plan::data::Plan;
+use receiving::receive;
+use replies::Answer;
+use replies::plain;
+use rerouting::timer::expire_t6;
+use rerouting::timer::expire_t8;
+use rerouting::timer::expire_t10;
+use routing::list::route_list;
+use sending::acknowledge::acknowledge;
+use sending::send::send;
+use waiting::expire_wait;
+ghost use mathlib.Core.Path.{_≡_};
+ghost use lib.ListN.{length};
+ghost use Rattle.routing.specs.RouteList.{listReply, listed, laid};
+ghost use Rattle.replies.specs.Areas.{areas};
+ghost use Rattle.node.specs.Memory.{memory, Gives};
+ghost use Rattle.node.specs.Call.{callOf, listAnswer};
+
+pub enum Event {
+    // Of a link: it comes into service, it fails, level 2 asks for its next message.
+    IntoService(u8),
+    Failure(u8),
+    Send(u8),
+    // Of a link, with a number: level 2 acknowledges up to it; a message came in with it.
+    Acknowledgement(u8, u8),
+    Received(u8, u8),
+    // The host hands a message over.
+    FromHost,
+    // A timer of a link expires.
+    T1(u8),
+    T2(u8),
+    T3(u8),
+    T4(u8),
+    // A timer of a destination expires, by its code, and that of a route, by its destination's code and its set.
+    T6(u16),
+    T8(u16),
+    T10(u16, u8),
+    // The route list is asked for.
+    RouteList,
+}
+
+// One call of the node: the message is that received or handed over, the output that of a send or of the route list.
+pub fn call(
+    plan: Plan,
+    links: &mut [u32; 256],
+    marks: &mut [u32; 512],
+    spans: &mut [u16; 70],
+    rings: &mut [u8; 8960],
+    rows: &mut [u64; 2048],
+    octets: &mut [u8; 52416],
+    arrivals: &mut [u64; 1],
+    event: Event,
+    message: &[u8],
+    out: &mut [u8],
+    reports: &mut [u64],
+) -> Answer
+    ensures { λ r. ⌜ Gives (callOf plan event (now (message .entry)) (memory (areas (now (links .entry)) (now (marks .entry)) (now (spans .entry)) (now (rings .entry)) (now (rows .entry)) (now (arrivals .entry)) (now (reports .entry))) (now (octets .entry)) (now (out .entry)))) r (memory (areas (now (links .exit)) (now (marks .exit)) (now (spans .exit)) (now (rings .exit)) (now (rows .exit)) (now (arrivals .exit)) (now (reports .exit))) (now (octets .exit)) (now (out .exit))) ⌝ }
+{
+    match event {
+        Event::IntoService(link) => into_service(
+            plan,
+            links,
+            marks,
+            spans,
+            rings,
+            rows,
+            arrivals,
+            link,
+            reports,
+        ),
+        Event::Failure(link) => fail(
+            plan,
+            links,
+            marks,
+            spans,
+            rings,
+            rows,
+            arrivals,
+            link,
+            reports,
+        ),
+        Event::Send(link) => send(plan, links, spans, rings, rows, octets, link, out),
+        Event::Acknowledgement(link, b) => plain(acknowledge(plan, links, spans, rings, link, b)),
+        Event::Received(link, fsn) => receive(
+            plan,
+            links,
+            marks,
+            spans,
+            rings,
+            rows,
+            octets,
+            arrivals,
+            link,
+            fsn,
+            message,
+            reports,
+        ),
+        Event::FromHost => send_host(
+            plan,
+            links,
+            marks,
+            spans,
+            rings,
+            rows,
+            octets,
+            arrivals,
+            message,
+        ),
+        Event::T1(link) => expire(plan, links, marks, spans, rings, rows, link, 1, reports),
+        Event::T2(link) => expire(plan, links, marks, spans, rings, rows, link, 2, reports),
+        Event::T3(link) => plain(expire_wait(plan, links, link, 3)),
+        Event::T4(link) => plain(expire_wait(plan, links, link, 4)),
+        Event::T6(x) => expire_t6(plan, links, marks, spans, rings, rows, x, reports),
+        Event::T8(x) => plain(expire_t8(plan, marks, x)),
+        Event::T10(x, set) => expire_t10(plan, links, marks, spans, rings, rows, arrivals, x, set),
+        Event::RouteList => list(plan, links, marks, out),
+    }
+}
+
+// The route list.
+fn list(plan: Plan, links: &[u32; 256], marks: &[u32; 512], out: &mut [u8]) -> Answer
+    ensures { λ r. ⌜ r ≡ listAnswer (listReply (now (out .entry)) plan) (length (listed (now (out .entry)) (now (links .entry)) (now (marks .entry)) plan)) ⌝ }
+    ensures { λ r. ⌜ now (out .exit) ≡ laid (now (out .entry)) 0 (listed (now (out .entry)) (now (links .entry)) (now (marks .entry)) plan) ⌝ }
+{
+    let written = route_list(plan, links, marks, out);
+    Answer {
+        reply: written.reply,
+        fsn: 0,
+        octets: written.count,
+        reports: 0,
+        delivers: false,
+    }
+}

@@ -1,0 +1,2 @@
+// The node: one entry for every event.
+pub mod call;

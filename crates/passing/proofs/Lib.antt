@@ -1,0 +1,4 @@
+pub mod Flagged
+pub mod Unreached
+pub mod Placing
+pub mod Offering

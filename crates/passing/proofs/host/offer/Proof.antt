@@ -1,0 +1,90 @@
+-- `passing::host::offer` meets its contract: our own DPC and one with no way are refused, another goes by the place that it finds.
+-- Assumes nothing.
+use borrow.Author.Needs.{needs}
+use mathlib.Core.Bool.{true}
+use mathlib.Core.List.{[]}
+use Rattle.replies.specs.Areas.{Areas, areas}
+use Rattle.passing.proofs.Placing.{no-way, placed}
+use Rattle.passing.proofs.Offering.{ours-refused, others-refused, offer-refused, offer-queued}
+use Rattle.passing.proofs.host.offer.Statement.{statement}
+use Rattle.passing.proofs.host.offer.Tie as tie
+
+plain-requires : tie.Need-plain-requires
+plain-requires c κs = search needs
+
+-- the areas before it
+abbrev before : tie.Start → Areas
+before c =
+    let a = c .args in
+    areas (a .links .now) (a .marks .now) (a .spans .now) (a .rings .now) (a .rows .now) (a .arrivals .now) []
+
+returns : tie.Need-returns
+returns c =
+    let start = c .before .before .before .before .before in
+    let a = start .args in
+    offer-refused (a .plan) (a .label) (before start) (a .octets .now) (a .message .now)
+    (ours-refused (a .plan) (a .label) (before start) (c .before .if1 .taken)) (c .plain .result) (c .plain .ensures)
+
+for-users-requires : tie.Need-for-users-requires
+for-users-requires c κs = search needs
+
+way-requires : tie.Need-way-requires
+way-requires c κs = search needs
+
+plain-requires-2 : tie.Need-plain-requires-2
+plain-requires-2 c κs = search needs
+
+returns-2 : tie.Need-returns-2
+returns-2 c =
+    let link = c .before .before .way in
+    let need = c .before .before .before .for-users in
+    let at-if = c .before .before .before .before in
+    let start = at-if .before .before .before .before in
+    let a = start .args in
+    offer-refused (a .plan) (a .label) (before start) (a .octets .now) (a .message .now)
+    (others-refused (a .plan) (a .label) (before start) (at-if .if1 .left) true
+    (no-way (a .plan) (before start) (a .label) (need .result) (need .ensures) (link .result) (link .ensures) (c .before .if2 .taken)))
+    (c .plain2 .result) (c .plain2 .ensures)
+
+ring-of-requires : tie.Need-ring-of-requires
+ring-of-requires c κs = search needs
+
+queue-user-requires : tie.Need-queue-user-requires
+queue-user-requires c κs = search needs
+
+plain-requires-3 : tie.Need-plain-requires-3
+plain-requires-3 c κs = search needs
+
+returns-3 : tie.Need-returns-3
+returns-3 c =
+    let q = c .before .queue-user in
+    let at-ring = c .before .before .before .before .before .before .before in
+    let ring = at-ring .ring-of in
+    let link = at-ring .before .before .way in
+    let need = at-ring .before .before .before .for-users in
+    let at-if = at-ring .before .before .before .before in
+    let start = at-if .before .before .before .before in
+    let a = start .args in
+    let l = q .last in
+    offer-queued (a .plan) (a .label) (before start) (a .octets .now) (a .message .now) (at-if .if1 .left) (q .result)
+    (areas (a .links .now) (a .marks .now) (l .0) (l .1 .0) (l .1 .1 .0) (l .1 .1 .1 .1 .0) [])
+    (l .1 .1 .1 .0)
+    (placed (a .plan) (before start) (a .label) (a .octets .now) (a .message .now) (need .result) (need .ensures) (link .result)
+    (link .ensures) (at-ring .before .if2 .left) (ring .result) (ring .ensures) (q .result) (l .0) (l .1 .0) (l .1 .1 .0)
+    (l .1 .1 .1 .0) (l .1 .1 .1 .1 .0) (q .ensures))
+    (c .plain3 .result) (c .plain3 .ensures)
+
+pub offer-spec : {M : Type 1} → statement M
+offer-spec =
+    tie.close
+    (tie.spec
+    plain-requires
+    returns
+    for-users-requires
+    way-requires
+    plain-requires-2
+    returns-2
+    ring-of-requires
+    queue-user-requires
+    plain-requires-3
+    returns-3)

@@ -1,0 +1,91 @@
+// A message from the host.
+use crate::pass::ring_of;
+use access::way::for_users;
+use access::way::way;
+use discrimination::Came;
+use discrimination::from_host;
+use plan::data::Plan;
+use queueing::queue::queue_user;
+use replies::Answer;
+use replies::plain;
+use wire::header::Label;
+ghost use mathlib.Core.Path.{_≡_};
+ghost use mathlib.Core.List.{[]};
+ghost use lib.ListN.{length};
+ghost use Rattle.replies.specs.Areas.{areas, Leaves};
+ghost use Rattle.passing.specs.Host as Host;
+
+// A message with a label that the host offers.
+fn offer(
+    plan: Plan,
+    links: &[u32; 256],
+    marks: &[u32; 512],
+    spans: &mut [u16; 70],
+    rings: &mut [u8; 8960],
+    rows: &mut [u64; 2048],
+    octets: &mut [u8; 52416],
+    arrivals: &mut [u64; 1],
+    label: Label,
+    message: &[u8],
+) -> Answer
+    ensures { λ r. ⌜ Leaves (Host.offered plan label (length (now (message .entry))) (areas (now (links .entry)) (now (marks .entry)) (now (spans .entry)) (now (rings .entry)) (now (rows .entry)) (now (arrivals .entry)) [])) r (areas (now (links .entry)) (now (marks .entry)) (now (spans .exit)) (now (rings .exit)) (now (rows .exit)) (now (arrivals .exit)) []) ⌝ }
+    ensures { λ r. ⌜ now (octets .exit) ≡ Host.octetsOffered plan label (areas (now (links .entry)) (now (marks .entry)) (now (spans .entry)) (now (rings .entry)) (now (rows .entry)) (now (arrivals .entry)) []) (now (octets .entry)) (now (message .entry)) ⌝ }
+{
+    if label.dpc == plan.code {
+        return plain(9);
+    }
+    let link = way(plan, links, marks, for_users(), label.dpc, label.sls);
+    if 32 <= link {
+        return plain(9);
+    }
+    let ring = ring_of(plan, marks, label, link);
+    plain(queue_user(
+        spans,
+        rings,
+        rows,
+        octets,
+        arrivals,
+        ring,
+        label.dpc,
+        label.sls,
+        message,
+    ))
+}
+
+// The host hands over a message of its own.
+pub fn send_host(
+    plan: Plan,
+    links: &[u32; 256],
+    marks: &[u32; 512],
+    spans: &mut [u16; 70],
+    rings: &mut [u8; 8960],
+    rows: &mut [u64; 2048],
+    octets: &mut [u8; 52416],
+    arrivals: &mut [u64; 1],
+    message: &[u8],
+) -> Answer
+    ensures { λ r. ⌜ Leaves (Host.sent plan (now (message .entry)) (areas (now (links .entry)) (now (marks .entry)) (now (spans .entry)) (now (rings .entry)) (now (rows .entry)) (now (arrivals .entry)) [])) r (areas (now (links .entry)) (now (marks .entry)) (now (spans .exit)) (now (rings .exit)) (now (rows .exit)) (now (arrivals .exit)) []) ⌝ }
+    ensures { λ r. ⌜ now (octets .exit) ≡ Host.octetsSent plan (now (message .entry)) (areas (now (links .entry)) (now (marks .entry)) (now (spans .entry)) (now (rings .entry)) (now (rows .entry)) (now (arrivals .entry)) []) (now (octets .entry)) ⌝ }
+{
+    if !plan.given {
+        return plain(2);
+    }
+    match from_host(plan, message) {
+        Came::Passed(label) => offer(
+            plan,
+            links,
+            marks,
+            spans,
+            rings,
+            rows,
+            octets,
+            arrivals,
+            label,
+            message,
+        ),
+        Came::Foreign => plain(4),
+        Came::Malformed => plain(3),
+        Came::Delivered => plain(3),
+        Came::Managed(_) => plain(3),
+    }
+}

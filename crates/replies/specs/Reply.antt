@@ -1,0 +1,31 @@
+-- The replies: the document's table, row by row.
+use Prim.Native.Nat.{ℕ}
+use mathlib.Core.Bool.{Bool, false, cond}
+use lib.Dec.{eqb}
+use mathlib.Core.List.{List, [], _∷_}
+use Rattle.replies.specs.declared.Answer.{Answer}
+
+-- a row of the table: whether it applies, and its number
+pub record Row : Type 0 where
+  pub applies : Bool
+  pub number : ℕ
+
+abbrev pub row : ℕ → Bool → Row
+row number applies = record { applies = applies; number = number }
+
+-- "The first row after 0 that applies is the reply": 0, done, where none does
+unfoldable pub first : List Row → ℕ
+first [] = 0
+first (here ∷ later) = cond (here .applies) (here .number) (first later)
+
+-- what a call leaves: the new where its reply is 0, else what was
+abbrev pub ifDone : {A : Type 0} → ℕ → A → A → A
+ifDone reply new old = cond (eqb reply 0) new old
+
+-- a reply that writes nothing: "For replies other than 0 counts are 0"
+abbrev pub plain : ℕ → Answer
+plain reply = record { reply = reply; fsn = 0; octets = 0; reports = 0; delivers = false }
+
+-- done, with so many reports
+abbrev pub done : ℕ → Answer
+done reports = record { reply = 0; fsn = 0; octets = 0; reports = reports; delivers = false }

@@ -1,0 +1,3 @@
+pub mod Replying
+pub mod Expiring
+pub mod Marking

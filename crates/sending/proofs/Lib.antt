@@ -1,0 +1,3 @@
+pub mod AcknowledgeGiven
+pub mod FirstRows
+pub mod Window

@@ -1,0 +1,59 @@
+// Acknowledgement: the messages up to a number are retired.
+use counting::distance;
+use counting::in_range;
+use lookup::is_link;
+use numbers::acknowledged_to;
+use plan::data::Plan;
+use queueing::leave::retire;
+use rows::link::load_link;
+use rows::link::store_link;
+ghost use mathlib.Core.Path.{_≡_};
+ghost use Rattle.queueing.specs.Head.{both};
+ghost use Rattle.sending.specs.Acknowledge as Acknowledge;
+
+// The reply.
+fn acknowledge_reply(plan: Plan, links: &[u32; 256], link: u8, b: u8) -> u8
+    ensures { λ r. ⌜ r ≡ Acknowledge.replyOf plan (now (links .entry)) link b ⌝ }
+{
+    if 32 <= link {
+        return 1;
+    }
+    if 128 <= b {
+        return 1;
+    }
+    if !is_link(plan, link) {
+        return 2;
+    }
+    let known = load_link(links, link);
+    if known.state != 2 {
+        return 5;
+    }
+    if !in_range(known.acknowledged, known.sent, b) {
+        return 6;
+    }
+    0
+}
+
+// Level 2 acknowledges up to b.
+pub fn acknowledge(
+    plan: Plan,
+    links: &mut [u32; 256],
+    spans: &mut [u16; 70],
+    rings: &mut [u8; 8960],
+    link: u8,
+    b: u8,
+) -> u8
+    ensures { λ r. ⌜ r ≡ Acknowledge.replyOf plan (now (links .entry)) link b ⌝ }
+    ensures { λ r. ⌜ now (links .exit) ≡ Acknowledge.linksAfter plan (now (links .entry)) link b ⌝ }
+    ensures { λ r. ⌜ now (spans .exit) ≡ Acknowledge.queuesAfter plan (now (links .entry)) (both (now (spans .entry)) (now (rings .entry))) link b .spans ⌝ }
+    ensures { λ r. ⌜ now (rings .exit) ≡ Acknowledge.queuesAfter plan (now (links .entry)) (both (now (spans .entry)) (now (rings .entry))) link b .rings ⌝ }
+{
+    let reply = acknowledge_reply(plan, links, link, b);
+    if 0 < reply {
+        return reply;
+    }
+    let known = load_link(links, link);
+    retire(spans, rings, link, distance(known.acknowledged, b));
+    store_link(links, link, acknowledged_to(known, b));
+    0
+}

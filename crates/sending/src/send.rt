@@ -1,0 +1,116 @@
+// Send: the first unsent message of a link leaves, and stays in the queue.
+use lookup::is_link;
+use numbers::next_number;
+use numbers::sent_one;
+use plan::data::Plan;
+use replies::Answer;
+use replies::plain;
+use rows::link::load_link;
+use rows::link::store_link;
+use rows::slot::Slot;
+use rows::slot::load_slot;
+use store::message::copy_octets;
+use store::ring::at;
+use store::ring::count;
+use wire::header::Label;
+use wire::management::MessageRead;
+use wire::management::listed;
+use wire::management::write_message;
+ghost use mathlib.Core.Path.{_≡_};
+ghost use lib.ListN.{length};
+ghost use Rattle.sending.specs.Send as Send;
+
+// The reply.
+fn send_reply(plan: Plan, links: &[u32; 256], spans: &[u16; 70], link: u8, room: usize) -> u8
+    ensures { λ r. ⌜ r ≡ Send.replyOf plan (now (links .entry)) (now (spans .entry)) link room ⌝ }
+{
+    if 32 <= link {
+        return 1;
+    }
+    if room < 273 {
+        return 1;
+    }
+    if !is_link(plan, link) {
+        return 2;
+    }
+    let known = load_link(links, link);
+    if known.state != 2 {
+        return 5;
+    }
+    if count(spans, link) <= known.sent as u16 {
+        return 5;
+    }
+    if 127 <= known.sent {
+        return 5;
+    }
+    0
+}
+
+// A management message as octets; how many they are.
+fn write_held(plan: Plan, known: Slot, out: &mut [u8]) -> usize
+    ensures { λ r. ⌜ r ≡ Send.heldCount plan known (now (out .entry)) ⌝ }
+    ensures { λ r. ⌜ now (out .exit) ≡ Send.heldOut plan known (now (out .entry)) ⌝ }
+{
+    let heading = (known.heading % 256) as u8;
+    let low = (known.field % 256) as u8;
+    let high = (known.field / 256 % 256) as u8;
+    let MessageRead::Read(message) = listed(heading, low, high) else {
+        return 0;
+    };
+    let label = Label {
+        dpc: (known.point % 16384) as u16,
+        opc: plan.code,
+        sls: (known.sls % 16) as u8,
+    };
+    write_message(plan.ni, label, message, out)
+}
+
+// The message in a slot as octets; how many they are.
+fn write_slot(
+    plan: Plan,
+    rows: &[u64; 2048],
+    octets: &[u8; 52416],
+    slot: u8,
+    out: &mut [u8],
+) -> usize
+    ensures { λ r. ⌜ r ≡ Send.slotCount plan (now (rows .entry)) slot (now (out .entry)) ⌝ }
+    ensures { λ r. ⌜ now (out .exit) ≡ Send.slotOut plan (now (rows .entry)) (now (octets .entry)) slot (now (out .entry)) ⌝ }
+{
+    let known = load_slot(rows, slot);
+    if slot < 192 {
+        return copy_octets(octets, slot, known.field as usize, out);
+    }
+    write_held(plan, known, out)
+}
+
+// Level 2 asks for the next message of a link.
+pub fn send(
+    plan: Plan,
+    links: &mut [u32; 256],
+    spans: &[u16; 70],
+    rings: &[u8; 8960],
+    rows: &[u64; 2048],
+    octets: &[u8; 52416],
+    link: u8,
+    out: &mut [u8],
+) -> Answer
+    ensures { λ r. ⌜ r ≡ Send.answerOf plan (now (links .entry)) (now (spans .entry)) (now (rings .entry)) (now (rows .entry)) link (now (out .entry)) ⌝ }
+    ensures { λ r. ⌜ now (links .exit) ≡ Send.linksAfter plan (now (links .entry)) (now (spans .entry)) link (length (now (out .entry))) ⌝ }
+    ensures { λ r. ⌜ now (out .exit) ≡ Send.outAfter plan (now (links .entry)) (now (spans .entry)) (now (rings .entry)) (now (rows .entry)) (now (octets .entry)) link (now (out .entry)) ⌝ }
+{
+    let reply = send_reply(plan, links, spans, link, out.len());
+    if 0 < reply {
+        return plain(reply);
+    }
+    let known = load_link(links, link);
+    let first = at(spans, rings, link, known.sent as u16);
+    let many = write_slot(plan, rows, octets, first.slot, out);
+    store_link(links, link, sent_one(known));
+    Answer {
+        reply: 0,
+        fsn: next_number(known),
+        octets: many,
+        reports: 0,
+        delivers: false,
+    }
+}

@@ -1,0 +1,34 @@
+-- "An accepted text makes a fresh node, all links out and arrival numbers from 0." "A refused one makes none, and a node that
+-- already runs isn't touched."
+use Prim.Native.Nat.{ℕ}
+use mathlib.Core.List.{List}
+use lib.ListN.{set}
+use Rattle.plan.specs.declared.data.Plan.{Plan}
+use Rattle.store.specs.Fresh.{emptied}
+use Rattle.store.specs.Fresh as Fresh
+use Rattle.configuration.specs.declared.configure.Configured.{Configured}
+use Rattle.replies.specs.Reply.{ifDone}
+
+-- every link is out, and no timer runs
+abbrev pub freshLinks : List ℕ → List ℕ
+freshLinks links = emptied links 256
+
+-- no mark stands, and no timer of a destination runs
+abbrev pub freshMarks : List ℕ → List ℕ
+freshMarks marks = emptied marks 512
+
+-- every slot is free
+abbrev pub freshSpans : List ℕ → List ℕ
+freshSpans spans = Fresh.freshSpans spans
+
+abbrev pub freshRings : List ℕ → List ℕ
+freshRings rings = Fresh.freshRings rings
+
+-- the next arrival number is 0
+abbrev pub freshArrivals : List ℕ → List ℕ
+freshArrivals arrivals = set arrivals 0 0
+
+-- what a configuration answers, where a plan runs: the new plan, or the fault, its line and the plan that runs
+abbrev pub started : Configured → Plan → Configured
+started made running =
+    record { line = made .line; fault = made .fault; plan = ifDone (made .fault) (made .plan) running }
