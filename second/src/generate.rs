@@ -1,0 +1,516 @@
+//! A random record made by running the model, so that most events fit their states.
+
+use std::collections::BTreeMap;
+
+use crate::arrangement::random_configuration;
+use crate::configuration;
+use crate::point::{Call, Link, LinkState, Reply};
+use crate::random::Random;
+use crate::record;
+use crate::replay::Run;
+use crate::wire::{self, Label, Management};
+
+pub struct Generated {
+    pub configuration: String,
+    pub record: String,
+}
+
+/// In one seed of eight the last line can't be read.
+pub fn generate(seed: u64, lines: usize) -> Generated {
+    let mut random = Random::new(seed);
+    let configuration = random_configuration(&mut random);
+    let point = configuration::read(configuration.as_bytes()).expect("a faultless configuration");
+    let mut maker = Maker::new(random, Run::new(point));
+    let readable = if seed % 8 == 7 { lines.saturating_sub(1) } else { lines };
+    let mut record: String = (0..readable).map(|_| maker.next_line()).collect();
+    if readable < lines {
+        record += maker.unreadable_line();
+    }
+    Generated { configuration, record }
+}
+
+/// Stretches of a record in which some events are more frequent.
+#[derive(Clone, Copy, PartialEq, Eq, Debug)]
+enum Mood {
+    Ordinary,
+    Recovery,
+    /// User messages and no acknowledgements.
+    Burst,
+    /// Management messages and no acknowledgements.
+    Jam,
+    /// Links fail and change over.
+    Storm,
+    /// One pair's messages are sent and not acknowledged.
+    Window,
+    Rerouting,
+}
+
+#[derive(Clone, Copy, PartialEq, Eq, Debug)]
+enum Event {
+    Host,
+    Transit,
+    ToUs,
+    Send,
+    Ack,
+    Service,
+    Failure,
+    ChangeoverEnd,
+    Order,
+    WaitingEnd,
+    Cbd,
+    Tfp,
+    Tfa,
+    Rst,
+    T6,
+    T8,
+    T10,
+    Routes,
+}
+
+impl Mood {
+    fn weights(self) -> &'static [(Event, usize)] {
+        use Event::*;
+        match self {
+            Mood::Ordinary => &[
+                (Host, 14), (Transit, 10), (ToUs, 4), (Send, 22), (Ack, 14), (Service, 8), (Failure, 3),
+                (ChangeoverEnd, 5), (Order, 1), (WaitingEnd, 5), (Cbd, 1), (Tfp, 2), (Tfa, 2), (Rst, 1),
+                (T6, 1), (T8, 1), (T10, 1), (Routes, 1),
+            ],
+            Mood::Recovery => &[
+                (Service, 9), (WaitingEnd, 9), (Tfa, 4), (Send, 16), (Ack, 12), (ChangeoverEnd, 6), (T6, 3),
+                (T8, 2), (Host, 6),
+            ],
+            Mood::Burst => &[(Host, 30), (Transit, 15), (Send, 3), (Service, 2), (WaitingEnd, 1), (ToUs, 1)],
+            Mood::Jam => &[
+                (Cbd, 24), (Rst, 8), (T10, 8), (Tfp, 2), (Transit, 6), (Host, 2), (Failure, 1), (Order, 1),
+                (Service, 3), (WaitingEnd, 3), (Send, 2), (Tfa, 1),
+            ],
+            Mood::Storm => &[
+                (Failure, 9), (ChangeoverEnd, 9), (Order, 3), (Service, 10), (WaitingEnd, 4), (Host, 11),
+                (Transit, 9), (Send, 14), (Ack, 3), (T6, 1), (Cbd, 1), (Routes, 1),
+            ],
+            Mood::Window => &[(Host, 20), (Send, 20), (Ack, 6), (T6, 1)],
+            Mood::Rerouting => &[
+                (Tfp, 9), (Tfa, 8), (T10, 3), (Rst, 3), (T6, 2), (T8, 2), (Host, 14), (Transit, 10),
+                (Send, 8), (Ack, 5), (Service, 2), (WaitingEnd, 2), (Failure, 1), (ChangeoverEnd, 1), (Routes, 1),
+            ],
+        }
+    }
+
+    /// The fewest and the most lines of a stretch.
+    fn lines(self) -> (usize, usize) {
+        match self {
+            Mood::Burst => (140, 280),
+            Mood::Window => (380, 480),
+            Mood::Jam => (100, 160),
+            Mood::Recovery => (30, 60),
+            Mood::Ordinary | Mood::Storm | Mood::Rerouting => (60, 120),
+        }
+    }
+}
+
+pub(crate) struct Maker {
+    pub(crate) random: Random,
+    pub(crate) run: Run,
+    /// Of each link, the number of the last message the far end took.
+    taken: BTreeMap<u8, u8>,
+    mood: Mood,
+    lines_left: usize,
+    /// The pair that the mood Window fills.
+    focus: (u16, u8),
+}
+
+impl Maker {
+    fn new(random: Random, run: Run) -> Maker {
+        Maker { random, run, taken: BTreeMap::new(), mood: Mood::Recovery, lines_left: 40, focus: (0, 0) }
+    }
+
+    fn next_line(&mut self) -> String {
+        self.pass_mood();
+        let call = if self.random.one_in(10) { self.broken_call() } else { self.fitting_call() };
+        let outcome = self.run.call(&call);
+        if let (Call::Service(link), Reply::Done) = (&call, outcome.reply) {
+            self.taken.insert(*link as u8, 127);
+        }
+        let line = record::write_line(&call) + "\n";
+        if self.random.one_in(16) {
+            return with_upper_case_octets(&line);
+        }
+        line
+    }
+
+    fn unreadable_line(&mut self) -> &'static str {
+        let lines = ["service\n", "service\t01\n", "host\t0g\n", "ack\t0\n", "routes\t\n", "t5\t0\n", "\n",
+            "send\t18446744073709551616\n", "routes", "host\t800\n", "received\t0\t0\t80\t\n"];
+        self.random.pick(&lines).expect("some lines")
+    }
+
+    fn pass_mood(&mut self) {
+        if self.lines_left > 0 && !(self.mood == Mood::Window && self.focused_link().is_none()) {
+            self.lines_left -= 1;
+            return;
+        }
+        let moods = match self.mood {
+            Mood::Burst | Mood::Jam | Mood::Window => &[Mood::Storm, Mood::Storm, Mood::Ordinary][..],
+            Mood::Storm => &[Mood::Recovery, Mood::Recovery, Mood::Rerouting, Mood::Ordinary],
+            _ => &[Mood::Burst, Mood::Jam, Mood::Window, Mood::Storm, Mood::Rerouting, Mood::Ordinary],
+        };
+        self.mood = self.random.pick(moods).expect("some moods");
+        let (fewest, most) = self.mood.lines();
+        self.lines_left = self.random.between(fewest, most);
+        let accessible = self.destination_where(|maker, code| maker.run.point.accessible(code));
+        let destination = accessible.unwrap_or_else(|| self.some_destination());
+        self.focus = (destination, self.random.below(16) as u8);
+    }
+
+    /// The link of the pair in focus, while it can send and nothing is held apart.
+    fn focused_link(&self) -> Option<u8> {
+        let (dpc, sls) = self.focus;
+        let point = &self.run.point;
+        let link = point.current_link(dpc, sls)?;
+        let open = point.link(link).state == LinkState::Open;
+        (open && !point.destinations[&dpc].t6).then_some(link)
+    }
+
+    /// Draw events until one fits the state.
+    fn fitting_call(&mut self) -> Call {
+        let weights = self.mood.weights();
+        let total: usize = weights.iter().map(|(_, weight)| weight).sum();
+        for _ in 0..40 {
+            let mut drawn = self.random.below(total);
+            let event = weights.iter().find(|(_, weight)| {
+                let here = drawn < *weight;
+                drawn = drawn.saturating_sub(*weight);
+                here
+            });
+            let (event, _) = event.expect("the weights add up");
+            if let Some(call) = self.call_for(*event) {
+                return call;
+            }
+        }
+        self.service().unwrap_or(Call::Routes)
+    }
+
+    fn call_for(&mut self, event: Event) -> Option<Call> {
+        match event {
+            Event::Host => self.host(),
+            Event::Transit => self.transit(),
+            Event::ToUs => self.delivered(),
+            Event::Send => self.send(),
+            Event::Ack => self.ack(),
+            Event::Service => self.service(),
+            Event::Failure => self.failure(),
+            Event::ChangeoverEnd => self.changeover_end(),
+            Event::Order => self.order(),
+            Event::WaitingEnd => self.waiting_end(),
+            Event::Cbd => self.cbd(),
+            Event::Tfp => self.mark_order(false),
+            Event::Tfa => self.mark_order(true),
+            Event::Rst => self.rst(),
+            Event::T6 => self.t6(),
+            Event::T8 => self.t8(),
+            Event::T10 => self.t10(),
+            Event::Routes => Some(Call::Routes),
+        }
+    }
+
+    // Choosing links and destinations.
+
+    pub(crate) fn links_where(&self, fits: impl Fn(&Link) -> bool) -> Vec<u8> {
+        self.run.point.links.values().filter(|link| fits(link)).map(|link| link.number).collect()
+    }
+
+    pub(crate) fn link_where(&mut self, fits: impl Fn(&Link) -> bool) -> Option<u8> {
+        let links = self.links_where(fits);
+        self.random.pick(&links)
+    }
+
+    pub(crate) fn receiving_link(&mut self) -> Option<u8> {
+        self.link_where(|link| matches!(link.state, LinkState::Open | LinkState::Waiting))
+    }
+
+    pub(crate) fn some_destination(&mut self) -> u16 {
+        let codes: Vec<u16> = self.run.point.destinations.keys().copied().collect();
+        self.random.pick(&codes).unwrap_or(0)
+    }
+
+    fn destination_where(&mut self, fits: impl Fn(&Maker, u16) -> bool) -> Option<u16> {
+        let codes: Vec<u16> = self.run.point.destinations.keys().copied().collect();
+        let fitting: Vec<u16> = codes.into_iter().filter(|code| fits(self, *code)).collect();
+        self.random.pick(&fitting)
+    }
+
+    /// A pair for a user message: under T6 by preference, mostly accessible.
+    fn pair_for_traffic(&mut self) -> (u16, u8) {
+        if self.mood == Mood::Window && !self.random.one_in(8) {
+            return self.focus;
+        }
+        let sls = self.random.below(16) as u8;
+        let under_t6 = self.destination_where(|maker, code| maker.run.point.destinations[&code].t6);
+        let accessible = self.destination_where(|maker, code| maker.run.point.accessible(code));
+        let cut_off = self.destination_where(|maker, code| !maker.run.point.accessible(code));
+        let chosen = match self.random.below(12) {
+            0 => cut_off,
+            1..=5 if self.mood == Mood::Jam => cut_off.or(accessible),
+            1..=4 => under_t6.or(accessible),
+            _ => accessible,
+        };
+        (chosen.unwrap_or_else(|| self.some_destination()), sls)
+    }
+
+    // Octets.
+
+    fn payload(&mut self) -> Vec<u8> {
+        let most = wire::LONGEST - wire::SHORTEST;
+        let length = match self.random.below(40) {
+            0 => most,
+            1 => self.random.between(0, most),
+            _ => self.random.between(0, 6),
+        };
+        (0..length).map(|_| self.random.below(256) as u8).collect()
+    }
+
+    pub(crate) fn user_octets(&mut self, label: Label, si: u8) -> Vec<u8> {
+        let payload = self.payload();
+        let mut octets = wire::compose(self.run.point.ni, si, label, &payload);
+        self.set_spare_bits(&mut octets);
+        octets
+    }
+
+    fn set_spare_bits(&mut self, octets: &mut [u8]) {
+        if self.random.one_in(6) {
+            octets[0] |= 16 * self.random.below(4) as u8;
+        }
+    }
+
+    pub(crate) fn management_octets(&mut self, opc: u16, slc: u8, order: Management) -> Vec<u8> {
+        let label = Label { dpc: self.run.point.code, opc, sls: slc };
+        let mut octets = wire::compose(self.run.point.ni, 0, label, &order.write());
+        self.set_spare_bits(&mut octets);
+        if self.random.one_in(8) {
+            match octets[5] {
+                0x11 | 0x21 => octets[6] |= 0x80,
+                0x14 | 0x54 | 0x15 => octets[7] |= 0x40 << self.random.below(2),
+                _ => {}
+            }
+        }
+        octets
+    }
+
+    pub(crate) fn over(&mut self, link: u8, octets: Vec<u8>) -> Call {
+        let fsn = wire::step_on(self.run.point.link(link).last_received, 1);
+        Call::Received { link: link as u64, fsn: fsn as u64, octets }
+    }
+
+    /// A management message about a link of ours from its far end, over the link itself or any.
+    pub(crate) fn about(&mut self, link: u8, order: Management) -> Option<Call> {
+        let itself = matches!(self.run.point.link(link).state, LinkState::Open | LinkState::Waiting);
+        let over = if itself && self.random.one_in(4) { link } else { self.receiving_link()? };
+        let (opc, slc) = (self.run.point.adjacent(link), self.run.point.link(link).slc);
+        let octets = self.management_octets(opc, slc, order);
+        Some(self.over(over, octets))
+    }
+
+    // Events.
+
+    pub(crate) fn host(&mut self) -> Option<Call> {
+        let (dpc, sls) = self.pair_for_traffic();
+        let label = Label { dpc, opc: self.run.point.code, sls };
+        let si = self.random.between(1, 15) as u8;
+        Some(Call::Host(self.user_octets(label, si)))
+    }
+
+    pub(crate) fn transit(&mut self) -> Option<Call> {
+        let link = self.receiving_link()?;
+        let (dpc, sls) = self.pair_for_traffic();
+        let opc = match self.random.below(8) {
+            0 => self.run.point.code,
+            1 => self.random.below(16_384) as u16,
+            2 => self.some_destination(),
+            _ => self.run.point.adjacent(link),
+        };
+        let si = if self.random.one_in(8) { 0 } else { self.random.below(16) as u8 };
+        let octets = self.user_octets(Label { dpc, opc, sls }, si);
+        Some(self.over(link, octets))
+    }
+
+    fn delivered(&mut self) -> Option<Call> {
+        let link = self.receiving_link()?;
+        let (opc, sls) = (self.some_destination(), self.random.below(16) as u8);
+        let si = self.random.between(1, 15) as u8;
+        let octets = self.user_octets(Label { dpc: self.run.point.code, opc, sls }, si);
+        Some(self.over(link, octets))
+    }
+
+    fn send(&mut self) -> Option<Call> {
+        let fits = |link: &Link| link.state == LinkState::Open && link.queue.len() > link.sent;
+        let focused = self.focused_link().filter(|link| fits(self.run.point.link(*link)));
+        if self.mood == Mood::Window && focused.is_some() && !self.random.one_in(4) {
+            return focused.map(|link| Call::Send(link as u64));
+        }
+        self.link_where(fits).map(|link| Call::Send(link as u64))
+    }
+
+    /// The far end takes some more of what was sent; gives its last number.
+    fn far_end_takes(&mut self, link: u8) -> u8 {
+        let (last, sent) = (self.run.point.link(link).last_acknowledged, self.run.point.link(link).sent);
+        let known = self.taken.get(&link).map_or(0, |taken| wire::distance(last, *taken));
+        let known = if known > sent { 0 } else { known };
+        let taken = wire::step_on(last, self.random.between(known, sent));
+        self.taken.insert(link, taken);
+        taken
+    }
+
+    fn ack(&mut self) -> Option<Call> {
+        let spared = self.focused_link().filter(|_| self.mood == Mood::Window);
+        let fits = |link: &Link| link.state == LinkState::Open && link.sent > 0 && Some(link.number) != spared;
+        let link = self.link_where(fits)?;
+        let taken = self.far_end_takes(link);
+        let last = self.run.point.link(link).last_acknowledged;
+        let number = match self.random.below(4) {
+            0 => wire::step_on(last, self.random.between(0, wire::distance(last, taken))),
+            _ => taken,
+        };
+        Some(Call::Ack(link as u64, number as u64))
+    }
+
+    fn service(&mut self) -> Option<Call> {
+        self.link_where(|link| !link.carrying()).map(|link| Call::Service(link as u64))
+    }
+
+    fn failure(&mut self) -> Option<Call> {
+        let state = if self.random.one_in(4) { LinkState::Waiting } else { LinkState::Open };
+        let links = self.links_where(|link| link.state == state);
+        if links.len() == 1 && !self.random.one_in(4) {
+            return None;
+        }
+        self.random.pick(&links).map(|link| Call::Failure(link as u64))
+    }
+
+    /// A changeover number: true, one in range, just out of range, or any.
+    pub(crate) fn changeover_number(&mut self, link: u8) -> u8 {
+        let (last, sent) = (self.run.point.link(link).last_acknowledged, self.run.point.link(link).sent);
+        match self.random.below(10) {
+            0..=5 => self.far_end_takes(link),
+            6 => wire::step_on(last, self.random.between(0, sent)),
+            7 => wire::step_on(last, sent + 1),
+            8 => wire::step_on(last, 127),
+            _ => self.random.below(128) as u8,
+        }
+    }
+
+    fn changeover_end(&mut self) -> Option<Call> {
+        let link = self.link_where(|link| link.state == LinkState::Changing)?;
+        let t2 = self.run.point.link(link).t2;
+        let fsn = self.changeover_number(link);
+        match self.random.below(10) {
+            0 if t2 => Some(Call::T2(link as u64)),
+            0..=3 if !t2 => Some(Call::T1(link as u64)),
+            0..=5 if t2 => self.about(link, Management::Coa { fsn }),
+            6 if t2 => self.about(link, Management::Eca),
+            7 => self.about(link, Management::Eco),
+            _ => self.about(link, Management::Coo { fsn }),
+        }
+    }
+
+    /// COO or ECO about a link that isn't changing here: open, waiting, or by then out.
+    fn order(&mut self) -> Option<Call> {
+        let link = match self.random.below(5) {
+            0 => self.link_where(|link| !link.carrying())?,
+            1 => self.link_where(|link| link.state == LinkState::Waiting)?,
+            _ => self.link_where(|link| link.state == LinkState::Open)?,
+        };
+        let fsn = self.changeover_number(link);
+        let order = if self.random.one_in(3) { Management::Eco } else { Management::Coo { fsn } };
+        self.about(link, order)
+    }
+
+    fn waiting_end(&mut self) -> Option<Call> {
+        let link = self.link_where(|link| link.state == LinkState::Waiting)?;
+        let code = self.run.point.link(link).unanswered.first().copied();
+        match code {
+            Some(_) if self.random.one_in(3) => Some(Call::T4(link as u64)),
+            Some(code) => self.about(link, Management::Cba { code }),
+            None => Some(Call::T3(link as u64)),
+        }
+    }
+
+    fn cbd(&mut self) -> Option<Call> {
+        let point = &self.run.point;
+        let answerable = |link: &Link| point.management_path(point.adjacent(link.number), link.slc, None).is_some();
+        let links = self.links_where(answerable);
+        let link = if self.random.one_in(8) { self.link_where(|_| true)? } else { self.random.pick(&links)? };
+        let code = self.random.below(256) as u8;
+        self.about(link, Management::Cbd { code })
+    }
+
+    /// Routes with or without the mark, but for those to the adjacent point itself.
+    fn routes_marked(&self, marked: bool) -> Vec<(u16, u8)> {
+        let point = &self.run.point;
+        let mut found = Vec::new();
+        for destination in point.destinations.values() {
+            for route in &destination.routes {
+                if route.prohibited == marked && point.sets[&route.set].adjacent != destination.code {
+                    found.push((destination.code, route.set));
+                }
+            }
+        }
+        found
+    }
+
+    /// TFP about an unmarked route, or TFA about a marked one.
+    fn mark_order(&mut self, allow: bool) -> Option<Call> {
+        let mut routes = self.routes_marked(allow);
+        let under_t6 = |route: &(u16, u8)| self.run.point.destinations[&route.0].t6;
+        if routes.iter().any(under_t6) && self.random.one_in(3) {
+            routes.retain(|(code, _)| self.run.point.destinations[code].t6);
+        }
+        let (destination, set) = self.random.pick(&routes)?;
+        let order = if allow { Management::Tfa { destination } } else { Management::Tfp { destination } };
+        self.message_of_adjacent(set, order)
+    }
+
+    /// A message of the adjacent point of a set, over any link; its SLC means nothing.
+    pub(crate) fn message_of_adjacent(&mut self, set: u8, order: Management) -> Option<Call> {
+        let over = self.receiving_link()?;
+        let slc = if self.random.one_in(4) { self.random.below(16) as u8 } else { 0 };
+        let octets = self.management_octets(self.run.point.sets[&set].adjacent, slc, order);
+        Some(self.over(over, octets))
+    }
+
+    fn rst(&mut self) -> Option<Call> {
+        let destination = self.destination_where(|maker, code| maker.run.point.accessible(code))?;
+        let current = self.run.point.current_set(destination)?;
+        let others: Vec<u8> = self.run.point.sets.keys().copied().filter(|set| *set != current).collect();
+        let set = self.random.pick(&others)?;
+        self.message_of_adjacent(set, Management::Rst { destination })
+    }
+
+    fn t6(&mut self) -> Option<Call> {
+        let any = self.destination_where(|maker, code| maker.run.point.destinations[&code].t6);
+        let cut_off = self.destination_where(|maker, code| {
+            let point = &maker.run.point;
+            point.destinations[&code].t6 && !point.accessible(code)
+        });
+        let code = if self.random.one_in(2) { cut_off.or(any)? } else { any? };
+        Some(Call::T6(code as u64))
+    }
+
+    fn t8(&mut self) -> Option<Call> {
+        let code = self.destination_where(|maker, code| maker.run.point.destinations[&code].t8)?;
+        Some(Call::T8(code as u64))
+    }
+
+    fn t10(&mut self) -> Option<Call> {
+        let routes = self.routes_marked(true);
+        let (destination, set) = self.random.pick(&routes)?;
+        Some(Call::T10(destination as u64, set as u64))
+    }
+}
+
+fn with_upper_case_octets(line: &str) -> String {
+    match line.rfind('\t') {
+        Some(tab) => format!("{}{}", &line[..tab], line[tab..].to_uppercase()),
+        None => line.to_string(),
+    }
+}
