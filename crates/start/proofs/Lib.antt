@@ -1,2 +1,1 @@
-pub mod Emptying
 pub mod Starting

@@ -1,5 +1,6 @@
 pub mod Cases
 pub mod Runs
+pub mod Emptying
 pub mod Steps
 pub mod Messages
 pub mod Spans

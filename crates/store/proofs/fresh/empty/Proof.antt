@@ -1,21 +1,13 @@
 -- `store::fresh::empty` meets its contract. The loop's invariant: the words passed are 0. The measure is what is left of 70.
 -- Assumes nothing.
 use borrow.Author.Needs.{needs}
-use mathlib.Core.Path.{_≡_, sym, ap, _∙_}
-use mathlib.Core.List.{List}
-use Prim.Native.Nat.{ℕ, _-_, _≤_}
-use native.Mathlib.Nat.{zero-add}
-use native.Mathlib.Omega.{arith}
-use lib.ListN.{length, take, set}
-use lib.Seq.{sets, take-all}
-use Rattle.store.specs.Run.{run}
-use Rattle.store.specs.Fresh.{emptied}
-use Rattle.store.proofs.Runs.{run-length, run-at, sets-next}
+use Prim.Native.Nat.{_-_}
+use Rattle.store.proofs.Emptying.{Emptying, one-more, all-emptied}
 use Rattle.store.proofs.fresh.empty.Statement.{statement}
 use Rattle.store.proofs.fresh.empty.Tie as tie
 
 abbrev Inv-loop : tie.InvT-loop
-Inv-loop spans₀ i₀ spans i = (i ≤ 70) × (spans ≡ sets spans₀ 0 (take i (run (λ k. 0) 0 70)))
+Inv-loop spans₀ i₀ spans i = Emptying 70 spans₀ spans i
 
 abbrev μ-loop : tie.MeasureT-loop
 μ-loop spans₀ i₀ spans i = 70 - i
@@ -38,19 +30,12 @@ loop-less c = search needs
 loop-again : tie.Need-loop-again Inv-loop μ-loop
 loop-again c =
     let l = c .before .loop in
-    let spans = c .before .before .args .spans .now in
-    let words : List ℕ = run (λ k. 0) 0 70 in
-    let size : length words ≡ 70 = run-length (λ k. 0) 0 70 in
-    let next = sets-next words spans 0 (l .i) 0 (omega arith) (sym (run-at (λ k. 0) 0 70 (l .i) (c .loop-test .taken))) in
-    (omega arith, ap (λ (s : List ℕ). set s (l .i) 0) (l .inv .1) ∙ simp zero-add at next)
+    one-more 70 (c .before .before .args .spans .now) (l .spans) (l .i) (l .inv) (c .loop-test .taken)
 
 returns : tie.Need-returns Inv-loop μ-loop
-unfolding emptied
 returns c =
     let l = c .before .loop in
-    let words : List ℕ = run (λ k. 0) 0 70 in
-    let size : length words ≡ 70 = run-length (λ k. 0) 0 70 in
-    l .inv .1 ∙ simp (take-all (l .i) words (omega arith))
+    all-emptied 70 (c .before .before .args .spans .now) (l .spans) (l .i) (l .inv) (c .loop-test .left)
 
 pub empty-spec : {M : Type 1} → statement M
 empty-spec =
