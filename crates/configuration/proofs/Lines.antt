@@ -11,14 +11,13 @@ use lib.ListN.{length}
 use lib.Seq.{slice, take-length, length-slice}
 use borrow.Author.Tests.{le-ltb, leb-true, leb-false, eq-eqb, ne-eqb}
 use Rattle.text.specs.declared.part.Part.{Part}
-use Rattle.text.specs.Part.{lf, marked, lineAt, split}
-use Rattle.text.specs.Decimal.{isEmpty}
+use Rattle.text.specs.Part.{lf, marked, lineAt, split, isEmpty}
 use borrow.Table.Steps.{cases}
 use Rattle.text.proofs.Parts.{cut-none, first-part, split-last, next-onward, next-within}
 use Rattle.plan.specs.declared.data.Plan.{Plan}
-use Rattle.plan.specs.declared.add.Added.{Added}
+use Rattle.building.specs.declared.add.Added.{Added}
 use Rattle.plan.specs.Data.{emptyPlan}
-use Rattle.plan.specs.Add.{refused}
+use Rattle.building.specs.Add.{refused}
 use Rattle.statement.specs.declared.Word.{Word}
 use Rattle.statement.specs.declared.Statement.{Statement}
 use Rattle.statement.specs.declared.Said.{Said}

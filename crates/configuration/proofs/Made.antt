@@ -6,14 +6,13 @@ use mathlib.Core.List.{List, [], _∷_}
 use Prim.Native.Nat.{ℕ, _+_}
 use lib.Dec.{ltb, eqb}
 use lib.ListN.{length}
-use Rattle.text.specs.Part.{lf, split}
-use Rattle.text.specs.Decimal.{isEmpty}
+use Rattle.text.specs.Part.{lf, split, isEmpty}
 use Rattle.plan.specs.declared.data.Plan.{Plan}
-use Rattle.plan.specs.declared.add.Added.{Added}
+use Rattle.building.specs.declared.add.Added.{Added}
 use Rattle.plan.specs.Data.{emptyPlan}
-use Rattle.plan.specs.Add.{refused}
+use Rattle.building.specs.Add.{refused}
 use Rattle.plan.specs.Sound.{Sound}
-use Rattle.plan.proofs.Kept.{node-kept, set-kept, link-kept, route-kept}
+use Rattle.building.proofs.Kept.{node-kept, set-kept, link-kept, route-kept}
 use Rattle.plan.proofs.Sound.{empty-sound}
 use Rattle.statement.specs.declared.Word.{Word}
 use Rattle.statement.specs.declared.Word.the-variants.{Node, Set, Link, Route, Other}

@@ -4,12 +4,11 @@ use mathlib.Core.Bool.{Bool, true, false, cond, not, _&&_}
 use mathlib.Core.List.{List, [], _∷_}
 use lib.ListN.{length, getD}
 use lib.Dec.{ltb, eqb}
-use Rattle.text.specs.Part.{split, lf, tab}
-use Rattle.text.specs.Decimal.{isEmpty}
+use Rattle.text.specs.Part.{split, isEmpty, lf, tab}
 use Rattle.plan.specs.declared.data.Plan.{Plan}
-use Rattle.plan.specs.declared.add.Added.{Added}
+use Rattle.building.specs.declared.add.Added.{Added}
 use Rattle.plan.specs.Data.{emptyPlan}
-use Rattle.plan.specs.Add.{refused, addNode, addSet, addLink, addRoute}
+use Rattle.building.specs.Add.{refused, addNode, addSet, addLink, addRoute}
 use Rattle.statement.specs.declared.Statement.{Statement}
 use Rattle.statement.specs.declared.Said.{Said}
 use Rattle.statement.specs.declared.Said.the-variants.{Says, Faulty}

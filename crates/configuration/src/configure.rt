@@ -1,9 +1,9 @@
 // A configuration read line by line.
-use plan::add::Added;
-use plan::add::add_link;
-use plan::add::add_node;
-use plan::add::add_route;
-use plan::add::add_set;
+use building::add::Added;
+use building::add::add_link;
+use building::add::add_node;
+use building::add::add_route;
+use building::add::add_set;
 use plan::data::Plan;
 use plan::data::empty_plan;
 use statement::Said;

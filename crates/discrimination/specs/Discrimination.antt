@@ -7,10 +7,10 @@ use Rattle.plan.specs.declared.data.Plan.{Plan}
 use Rattle.wire.specs.declared.header.Header.{Header}
 use Rattle.wire.specs.declared.header.HeaderRead.{HeaderRead}
 use Rattle.wire.specs.declared.header.HeaderRead.the-variants as Read
-use Rattle.wire.specs.declared.management.MessageRead.{MessageRead}
-use Rattle.wire.specs.declared.management.MessageRead.the-variants as Message
+use Rattle.network.specs.declared.management.MessageRead.{MessageRead}
+use Rattle.network.specs.declared.management.MessageRead.the-variants as Message
 use Rattle.wire.specs.Header.{readHeader}
-use Rattle.wire.specs.Management.{readMessage}
+use Rattle.network.specs.Management.{readMessage}
 use Rattle.discrimination.specs.declared.Came.{Came}
 use Rattle.discrimination.specs.declared.Came.the-variants.{Malformed, Foreign, Delivered, Managed, Passed}
 

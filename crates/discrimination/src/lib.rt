@@ -1,12 +1,12 @@
 // Discrimination: what a message is to this node, before any state is looked at.
+use network::management::Message;
+use network::management::MessageRead;
+use network::management::read_message;
 use plan::data::Plan;
 use wire::header::Header;
 use wire::header::HeaderRead;
 use wire::header::Label;
 use wire::header::read_header;
-use wire::management::Message;
-use wire::management::MessageRead;
-use wire::management::read_message;
 ghost use mathlib.Core.Path.{_≡_};
 ghost use Rattle.discrimination.specs.Discrimination as Discrimination;
 

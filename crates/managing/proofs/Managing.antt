@@ -6,9 +6,9 @@ use Prim.Native.Nat.{ℕ}
 use types.Run.{OneOf, miss}
 use denote.Enum.Declared.{tagOf}
 use Rattle.plan.specs.declared.data.Plan.{Plan}
-use Rattle.wire.proofs.management.Message as Declared
-use Rattle.wire.specs.declared.management.Message.{Message}
-use Rattle.wire.specs.declared.management.Message.the-variants.{COO, COA, CBD, CBA, ECO, ECA, TFP, TFA, RST}
+use Rattle.network.proofs.management.Message as Declared
+use Rattle.network.specs.declared.management.Message.{Message}
+use Rattle.network.specs.declared.management.Message.the-variants.{COO, COA, CBD, CBA, ECO, ECA, TFP, TFA, RST}
 use Rattle.replies.specs.declared.Answer.{Answer}
 use Rattle.replies.specs.Areas.{Areas, Outcome, Leaves}
 use Rattle.orders.specs.declared.step.Step.{Step}

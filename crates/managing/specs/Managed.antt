@@ -3,8 +3,8 @@ use Prim.Native.Nat.{ℕ}
 use mathlib.Core.Bool.{true, false, cond}
 use mathlib.Core.List.{List}
 use Rattle.plan.specs.declared.data.Plan.{Plan}
-use Rattle.wire.specs.declared.management.Message.{Message}
-use Rattle.wire.specs.declared.management.Message.the-variants.{COO, COA, CBD, CBA, ECO, ECA, TFP, TFA, RST}
+use Rattle.network.specs.declared.management.Message.{Message}
+use Rattle.network.specs.declared.management.Message.the-variants.{COO, COA, CBD, CBA, ECO, ECA, TFP, TFA, RST}
 use Rattle.replies.specs.Reply.{done}
 use Rattle.replies.specs.Areas.{Areas, Outcome, outcome, withLinks}
 use Rattle.numbers.specs.Numbers.{taken}

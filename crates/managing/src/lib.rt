@@ -1,5 +1,6 @@
 // A management message for us: what each of the nine does.
 use discrimination::Order;
+use network::management::Message;
 use numbers::take_message;
 use orders::ask::ask_cbd;
 use orders::ask::ask_coa;
@@ -17,7 +18,6 @@ use replies::plain;
 use rerouting::mark::transfer;
 use waiting::answer_wait;
 use waiting::answers;
-use wire::management::Message;
 ghost use mathlib.Core.Path.{_≡_};
 ghost use mathlib.Core.List.{[]};
 ghost use Rattle.replies.specs.Areas.{areas, Leaves};

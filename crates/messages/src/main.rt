@@ -1,8 +1,8 @@
 // Prints a spread of management messages, sixteen of each kind: a line for each, with what was meant and the octets that say
 // it. `stdout` beside this was made by another encoder and taken apart by a third program (tests/dissect.py).
 use libc::STDOUT_FILENO;
+use network::management::Message;
 use wire::header::Label;
-use wire::management::Message;
 
 const NAMES: [u8; 27] = *b"COOCOACBDCBAECOECATFPTFARST";
 
@@ -41,10 +41,10 @@ fn print_line(kind: usize, k: usize) {
     let meant = message(kind, CODES[(k % 16 + 5) % 16]);
     let ni = (k % 4) as u8;
     let mut octets = [0u8; 273];
-    let count = wire::management::write_message(ni, label, meant, &mut octets);
+    let count = network::management::write_message(ni, label, meant, &mut octets);
     let mut line = [0u8; 64];
     let at = put_meant(&mut line, kind, ni, label, meant);
-    let at = text::hex::put_hex(&mut line, at, text::part::between(&octets, 0, count));
+    let at = octets::hex::put_hex(&mut line, at, text::part::between(&octets, 0, count));
     let at = text::put::put(&mut line, at, b"\n");
     io::write_all(STDOUT_FILENO, text::part::between(&line, 0, at));
 }
@@ -63,7 +63,7 @@ fn put_meant(line: &mut [u8], kind: usize, ni: u8, label: Label, message: Messag
 
 fn put_word(line: &mut [u8], at: usize, value: u64) -> usize {
     let at = text::put::put(line, at, b"\t");
-    text::decimal::put_decimal(line, at, value)
+    numerals::decimal::put_decimal(line, at, value)
 }
 
 fn put_field(line: &mut [u8], at: usize, message: Message) -> usize {

@@ -8,8 +8,8 @@ use borrow.Author.Tests.{lt-ltb, le-ltb, eq-eqb, ne-eqb}
 use Rattle.plan.specs.declared.data.Plan.{Plan}
 use Rattle.rows.specs.Rows.{slotAt}
 use Rattle.rows.specs.declared.slot.Slot.{Slot}
-use Rattle.store.specs.declared.ring.Taken.{Taken}
-use Rattle.store.specs.Ring.{atOf, takeOf}
+use Rattle.rings.specs.declared.ring.Taken.{Taken}
+use Rattle.rings.specs.Ring.{atOf, takeOf}
 use Rattle.routing.specs.declared.state.Need.{Need}
 use Rattle.routing.specs.Which.{none}
 use Rattle.access.specs.Way.{forUsers, forManagement, wayOf}

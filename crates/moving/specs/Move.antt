@@ -6,7 +6,7 @@ use mathlib.Core.List.{List}
 use lib.Dec.{ltb, eqb}
 use Rattle.plan.specs.declared.data.Plan.{Plan}
 use Rattle.rows.specs.Rows.{slotAt}
-use Rattle.store.specs.Ring.{countOf}
+use Rattle.rings.specs.Ring.{countOf}
 use Rattle.routing.specs.declared.state.Need.{Need}
 use Rattle.routing.specs.Which.{none}
 use Rattle.access.specs.Way.{forUsers, forManagement, wayOf}

@@ -1,13 +1,6 @@
-pub mod DestinationKept
-pub mod Faults
 pub mod Found
 pub mod Halving
-pub mod Inserted
-pub mod Kept
-pub mod LinkKept
 pub mod Order
-pub mod Push
-pub mod Searches
 pub mod Sound
 pub mod Split
 pub mod Tables

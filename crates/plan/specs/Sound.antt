@@ -4,7 +4,6 @@ use mathlib.Core.Path.{_≡_}
 use mathlib.Core.Bool.{true}
 use lib.ListN.{length, getD}
 use Rattle.plan.specs.declared.data.Plan.{Plan}
-use Rattle.plan.specs.declared.add.Added.{Added}
 use Rattle.plan.specs.Data.{setAt, linkAt, linksOf, routesOf}
 use Rattle.plan.specs.Find.{codeAt, given}
 
@@ -39,8 +38,3 @@ pub record Sound (plan : Plan) : Type 0 where
 pub record Stands (plan : Plan) (code place : ℕ) : Type 0 where
   pub within : place < given plan
   pub has-code : codeAt (plan .destinations) place ≡ code
-
--- a statement leaves a sound plan, and the plan as it was where it is refused
-pub record Kept (plan : Plan) (added : Added) : Type 0 where
-  pub still-sound : Sound (added .plan)
-  pub as-it-was : (added .fault ≡ 0 → ⊥) → added .plan ≡ plan

@@ -1,6 +1,3 @@
-// What a configuration says: the plan, and how one statement more is put into it.
-pub mod add;
+// What a configuration says: the plan, and where a destination stands in it.
 pub mod data;
 pub mod find;
-pub mod insert;
-pub mod taken;

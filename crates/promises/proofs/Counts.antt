@@ -9,11 +9,11 @@ use native.Mathlib.Omega.{arith}
 use lib.ListN.{length}
 use borrow.Table.Steps.{cases}
 use Rattle.plan.proofs.Split.{alike}
-use Rattle.store.specs.Ring.{countOf, takeOf, spansTaken, spansPut}
-use Rattle.store.specs.Move.{spansMoved}
+use Rattle.rings.specs.Ring.{countOf, takeOf, spansTaken, spansPut}
+use Rattle.rings.specs.Move.{spansMoved}
 use Rattle.store.specs.Sound.{Sound}
-use Rattle.store.proofs.Spans.{taken-count, taken-count-other, taken-length, put-count, put-count-other}
-use Rattle.store.proofs.Queues.{found-some, found-none}
+use Rattle.rings.proofs.Spans.{taken-count, taken-count-other, taken-length, put-count, put-count-other}
+use Rattle.rings.proofs.Queues.{found-some, found-none}
 use Rattle.store.proofs.Moves.{taken-room, sound-move}
 use Rattle.queueing.specs.Head.{Queues, moved}
 

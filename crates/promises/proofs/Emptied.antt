@@ -10,8 +10,8 @@ use borrow.Author.Tests.{ltb-true}
 use borrow.Table.Steps.{cases}
 use Rattle.plan.specs.declared.data.Plan.{Plan}
 use Rattle.rows.specs.Rows.{recordAt}
-use Rattle.store.specs.Ring.{countOf}
-use Rattle.store.proofs.Queues.{found-none}
+use Rattle.rings.specs.Ring.{countOf}
+use Rattle.rings.proofs.Queues.{found-none}
 use Rattle.routing.specs.Which.{none}
 use Rattle.queueing.specs.Head.{headOf}
 use Rattle.queueing.specs.Leave.{State}

@@ -7,7 +7,7 @@ use Prim.Native.Nat.{ℕ, _≤_, _<_}
 use native.Mathlib.Nat.{le-refl}
 use native.Mathlib.Omega.{arith}
 use Rattle.rows.specs.Rows.{recordAt}
-use Rattle.store.specs.Ring.{countOf}
+use Rattle.rings.specs.Ring.{countOf}
 use Rattle.store.specs.Sound.{Sound}
 use Rattle.queueing.specs.Head.{Queues, moved}
 use Rattle.promises.proofs.Counts.{move-sound, move-no-less, move-other}

@@ -12,7 +12,7 @@ use borrow.Author.Tests.{le-ltb}
 use Rattle.plan.proofs.Split.{split, alike}
 use Rattle.rows.specs.declared.link.LinkRecord.{LinkRecord}
 use Rattle.rows.specs.Rows.{recordAt, withRecord}
-use Rattle.store.specs.Ring.{countOf}
+use Rattle.rings.specs.Ring.{countOf}
 use Rattle.queueing.specs.Head.{Queues, both}
 use Rattle.promises.specs.Regular.{regularLink, Regular}
 use Rattle.promises.proofs.Records.{kept, record-same, record-other, record-length}

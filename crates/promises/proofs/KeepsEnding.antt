@@ -8,7 +8,7 @@ use native.Mathlib.Omega.{arith}
 use Rattle.plan.specs.declared.data.Plan.{Plan}
 use Rattle.rows.specs.declared.link.LinkRecord.{LinkRecord}
 use Rattle.rows.specs.Rows.{recordAt}
-use Rattle.store.specs.Ring.{countOf}
+use Rattle.rings.specs.Ring.{countOf}
 use Rattle.replies.specs.Areas.{Areas}
 use Rattle.queueing.specs.Head.{Queues, both}
 use Rattle.queueing.specs.Leave.{State, state, retired, dropped}

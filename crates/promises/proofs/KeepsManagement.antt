@@ -13,8 +13,8 @@ use Rattle.plan.specs.declared.data.Plan.{Plan}
 use Rattle.plan.proofs.Split.{alike}
 use Rattle.rows.specs.declared.link.LinkRecord.{LinkRecord}
 use Rattle.rows.specs.Rows.{recordAt}
-use Rattle.wire.specs.declared.management.Message.{Message}
-use Rattle.wire.specs.declared.management.Message.the-variants.{COO, COA, CBD, CBA, ECO, ECA, TFP, TFA, RST}
+use Rattle.network.specs.declared.management.Message.{Message}
+use Rattle.network.specs.declared.management.Message.the-variants.{COO, COA, CBD, CBA, ECO, ECA, TFP, TFA, RST}
 use Rattle.replies.specs.Reply.{done}
 use Rattle.replies.specs.Areas.{Areas, Outcome, outcome, withLinks}
 use Rattle.lookup.specs.Lookup.{linkNamed}

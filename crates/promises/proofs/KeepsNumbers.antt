@@ -12,7 +12,7 @@ use Rattle.plan.specs.declared.data.Plan.{Plan}
 use Rattle.plan.proofs.Split.{both-false}
 use Rattle.rows.specs.declared.link.LinkRecord.{LinkRecord}
 use Rattle.rows.specs.Rows.{recordAt, withRecord}
-use Rattle.store.specs.Ring.{countOf}
+use Rattle.rings.specs.Ring.{countOf}
 use Rattle.lookup.specs.Lookup.{isLink}
 use Rattle.queueing.specs.Head.{Queues, both}
 use Rattle.queueing.specs.Leave.{retired}

@@ -13,7 +13,7 @@ use Rattle.plan.specs.declared.data.Plan.{Plan}
 use Rattle.plan.specs.Find.{given}
 use Rattle.plan.specs.Sound as Plan
 use Rattle.rows.specs.Rows.{recordAt, withRecord}
-use Rattle.store.specs.Ring.{countOf}
+use Rattle.rings.specs.Ring.{countOf}
 use Rattle.replies.specs.Areas.{Areas}
 use Rattle.reports.specs.Report.{short}
 use Rattle.routing.specs.Which.{none}

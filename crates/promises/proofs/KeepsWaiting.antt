@@ -11,7 +11,7 @@ use borrow.Table.Steps.{cases}
 use Rattle.plan.specs.declared.data.Plan.{Plan}
 use Rattle.rows.specs.declared.link.LinkRecord.{LinkRecord}
 use Rattle.rows.specs.Rows.{recordAt, withRecord}
-use Rattle.store.specs.Ring.{countOf}
+use Rattle.rings.specs.Ring.{countOf}
 use Rattle.lookup.specs.Lookup.{isLink, linkNamed}
 use Rattle.waiting.specs.Wait.{waits, runs, replyOf, stopped, expired, answered}
 use Rattle.waiting.proofs.Opens.{opens-with-nothing-left}

@@ -6,9 +6,9 @@ use Prim.Native.Nat.{ℕ, zero, suc, _+_, _-_, _<_}
 use native.Mathlib.Omega.{arith}
 use lib.Dec.{ltb}
 use borrow.Table.Steps.{cases}
-use Rattle.store.specs.Ring.{countOf}
+use Rattle.rings.specs.Ring.{countOf}
 use Rattle.store.specs.Sound.{Sound}
-use Rattle.store.proofs.Queues.{found-none}
+use Rattle.rings.proofs.Queues.{found-none}
 use Rattle.queueing.specs.Head.{Queues, headOf, moved, freeRing, freed, repeat}
 use Rattle.queueing.specs.Leave.{State, retired, droppedOne, dropped}
 use Rattle.promises.proofs.Counts.{move-from}

@@ -9,12 +9,12 @@ use lib.Dec.{eqb}
 use lib.ListN.{length}
 use borrow.Author.Tests.{lt-ltb, eq-eqb, eqb-false}
 use borrow.Table.Steps.{cases}
-use Rattle.store.specs.Ring.{countOf, takeOf}
+use Rattle.rings.specs.Ring.{countOf, takeOf}
 use Rattle.store.specs.Sound.{Sound}
-use Rattle.store.specs.Write.{Write, rowsWith, octetsWith}
-use Rattle.store.specs.Message as Message
-use Rattle.store.proofs.Queues.{found-count}
-use Rattle.store.proofs.ReadBack.{sound-written}
+use Rattle.slots.specs.Write.{Write, rowsWith, octetsWith}
+use Rattle.slots.specs.Message as Message
+use Rattle.rings.proofs.Queues.{found-count}
+use Rattle.store.proofs.Written.{sound-written}
 use Rattle.replies.proofs.Rows.{none-applies}
 use Rattle.queueing.specs.Head.{Queues, headOf, moved}
 use Rattle.queueing.specs.Queue.{nextOf, noUserPlace, noManagementPlace, userReply, userQueues, userRow, userOctets, managementReply, managementQueues, managementRow}

@@ -14,11 +14,11 @@ use Rattle.plan.specs.Sound as Plan
 use Rattle.rows.specs.declared.link.LinkRecord.{LinkRecord}
 use Rattle.rows.specs.Rows.{recordAt}
 use Rattle.rows.proofs.Laws.{row-same}
-use Rattle.store.specs.Run.{run}
-use Rattle.store.specs.Ring.{countOf}
+use Rattle.rings.specs.Run.{run}
+use Rattle.rings.specs.Ring.{countOf}
 use Rattle.store.specs.Fresh.{emptied}
-use Rattle.store.proofs.Runs.{run-length, run-at}
-use Rattle.store.proofs.Queues.{queue-length}
+use Rattle.rings.proofs.Runs.{run-length, run-at}
+use Rattle.rings.proofs.Queues.{queue-length}
 use Rattle.store.proofs.FreshStore.{other-queue, fresh-sound}
 use Rattle.configuration.specs.Configure.{configured}
 use Rattle.configuration.proofs.Made.{configured-sound}

@@ -7,7 +7,7 @@ use lib.Dec.{eqb, ltb, leb}
 use lib.ListN.{length}
 use Rattle.rows.specs.declared.link.LinkRecord.{LinkRecord}
 use Rattle.rows.specs.Rows.{recordAt}
-use Rattle.store.specs.Ring.{countOf}
+use Rattle.rings.specs.Ring.{countOf}
 use Rattle.store.specs.Sound as Store
 
 -- no timer of a link runs

@@ -7,8 +7,8 @@ use Prim.Native.Nat.{ℕ}
 use Rattle.rows.specs.Rows.{slotAt}
 use Rattle.rows.specs.declared.slot.Slot.{Slot}
 use Rattle.reports.specs.Report.{log, told}
-use Rattle.store.specs.declared.ring.Taken.{Taken}
-use Rattle.store.specs.Move.{spansMoved, ringsMoved}
+use Rattle.rings.specs.declared.ring.Taken.{Taken}
+use Rattle.rings.specs.Move.{spansMoved, ringsMoved}
 use Rattle.queueing.specs.Head.{both, headOf, moved, freed}
 use Rattle.queueing.specs.Leave.{state, droppedOne}
 use Rattle.queueing.proofs.Heads.{found-same}

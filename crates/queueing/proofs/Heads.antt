@@ -4,10 +4,10 @@ use mathlib.Core.Path.{_≡_, sym, ap, _∙_}
 use mathlib.Core.Bool.{Bool, true, false}
 use mathlib.Core.List.{List}
 use Prim.Native.Nat.{ℕ}
-use Rattle.store.specs.declared.ring.Taken.{Taken}
-use Rattle.store.specs.Ring.{atOf, takeOf, spansTaken, spansPut, ringsPut}
-use Rattle.store.specs.Move.{spansMoved, ringsMoved}
-use Rattle.store.proofs.Queues.{taken-none}
+use Rattle.rings.specs.declared.ring.Taken.{Taken}
+use Rattle.rings.specs.Ring.{atOf, takeOf, spansTaken, spansPut, ringsPut}
+use Rattle.rings.specs.Move.{spansMoved, ringsMoved}
+use Rattle.rings.proofs.Queues.{taken-none}
 use Rattle.queueing.specs.Head.{Queues, both, headOf, moved, freeRing, freed}
 
 -- what is found of one answer is found of the same

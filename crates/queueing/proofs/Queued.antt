@@ -7,9 +7,9 @@ use Prim.Native.Nat.{ℕ, _≤_, _<_}
 use lib.Dec.{eqb}
 use lib.ListN.{length}
 use borrow.Author.Tests.{eq-eqb, ne-eqb, le-leb, lt-leb}
-use Rattle.store.specs.declared.ring.Taken.{Taken}
-use Rattle.store.specs.Ring.{countOf}
-use Rattle.store.specs.Message as Message
+use Rattle.rings.specs.declared.ring.Taken.{Taken}
+use Rattle.rings.specs.Ring.{countOf}
+use Rattle.slots.specs.Message as Message
 use Rattle.replies.specs.Reply.{row, first}
 use Rattle.queueing.specs.Head.{both, headOf, moved}
 use Rattle.queueing.specs.Queue.{nextOf, noNumber, counted, userReply, userQueues, userRow, userOctets, userArrivals, managementReply, managementQueues, managementRow, managementArrivals}

@@ -3,9 +3,9 @@ use Prim.Native.Nat.{ℕ, zero, suc}
 use mathlib.Core.Bool.{cond}
 use mathlib.Core.List.{List}
 use lib.Dec.{ltb}
-use Rattle.store.specs.declared.ring.Taken.{Taken}
-use Rattle.store.specs.Ring.{takeOf}
-use Rattle.store.specs.Move.{spansMoved, ringsMoved}
+use Rattle.rings.specs.declared.ring.Taken.{Taken}
+use Rattle.rings.specs.Ring.{takeOf}
+use Rattle.rings.specs.Move.{spansMoved, ringsMoved}
 
 -- all queues: the rings with their heads and counts
 pub record Queues : Type 0 where

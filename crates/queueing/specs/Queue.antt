@@ -5,9 +5,9 @@ use mathlib.Core.Bool.{Bool}
 use mathlib.Core.List.{List, [], _∷_}
 use lib.Dec.{eqb, leb}
 use lib.ListN.{getD, set}
-use Rattle.store.specs.Ring.{countOf}
-use Rattle.store.specs.Message.{userRows, managementRows}
-use Rattle.store.specs.Message as Message
+use Rattle.rings.specs.Ring.{countOf}
+use Rattle.slots.specs.Message.{userRows, managementRows}
+use Rattle.slots.specs.Message as Message
 use Rattle.replies.specs.Reply.{row, first, ifDone}
 use Rattle.queueing.specs.Head.{Queues, headOf, moved}
 

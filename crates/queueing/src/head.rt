@@ -1,8 +1,8 @@
 // The head of a ring: moved to the end of another, or given up.
-use store::ring::Taken;
-use store::ring::at;
-use store::ring::put;
-use store::ring::take;
+use rings::ring::Taken;
+use rings::ring::at;
+use rings::ring::put;
+use rings::ring::take;
 ghost use mathlib.Core.Path.{_≡_};
 ghost use Rattle.queueing.specs.Head as Head;
 

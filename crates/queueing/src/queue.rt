@@ -1,8 +1,8 @@
 // A new message is queued: it gets a free slot and the next arrival number.
 use crate::head::move_head;
-use store::message::write_management;
-use store::message::write_user;
-use store::ring::count;
+use rings::ring::count;
+use slots::message::write_management;
+use slots::message::write_user;
 ghost use mathlib.Core.Path.{_≡_};
 ghost use lib.ListN.{length};
 ghost use Rattle.queueing.specs.Head.{both};

@@ -42,8 +42,8 @@ fn show_round(
     print_number(wrapping_sub_u64(all, users), b"\t");
     print_number(count_right(spans, rings, rows, octets), b"\t");
     empty_all(spans, rings);
-    print_number(store::ring::count(spans, 33) as u64, b"\t");
-    print_number(store::ring::count(spans, 34) as u64, b"\n");
+    print_number(rings::ring::count(spans, 33) as u64, b"\t");
+    print_number(rings::ring::count(spans, 34) as u64, b"\n");
     all
 }
 
@@ -58,12 +58,12 @@ fn fill_users(
     let mut arrival = first;
     let mut tried = 0u64;
     while tried < 300 {
-        let free = store::ring::take(spans, rings, 33);
+        let free = rings::ring::take(spans, rings, 33);
         if !free.found {
             break;
         }
         let message = message_of(arrival);
-        store::message::write_user(
+        slots::message::write_user(
             rows,
             octets,
             free.slot,
@@ -72,7 +72,7 @@ fn fill_users(
             arrival % 16,
             text::part::between(&message, 0, size_of(arrival)),
         );
-        store::ring::put(spans, rings, (arrival % 32) as u8, free.slot);
+        rings::ring::put(spans, rings, (arrival % 32) as u8, free.slot);
         arrival = wrapping_add_u64(arrival, 1);
         tried += 1;
     }
@@ -89,11 +89,11 @@ fn fill_management(
     let mut arrival = first;
     let mut tried = 0u64;
     while tried < 300 {
-        let free = store::ring::take(spans, rings, 34);
+        let free = rings::ring::take(spans, rings, 34);
         if !free.found {
             break;
         }
-        store::message::write_management(
+        slots::message::write_management(
             rows,
             free.slot,
             arrival,
@@ -102,7 +102,7 @@ fn fill_management(
             arrival % 16,
             arrival % 128,
         );
-        store::ring::put(spans, rings, (arrival % 32) as u8, free.slot);
+        rings::ring::put(spans, rings, (arrival % 32) as u8, free.slot);
         arrival = wrapping_add_u64(arrival, 1);
         tried += 1;
     }
@@ -135,7 +135,7 @@ fn count_right(
     let mut right = 0;
     let mut looked = 0u64;
     while looked < 8192 {
-        let held = store::ring::at(spans, rings, (looked % 32) as u8, (looked / 32) as u16);
+        let held = rings::ring::at(spans, rings, (looked % 32) as u8, (looked / 32) as u16);
         if held.found && is_right(rows, octets, held.slot) {
             right = wrapping_add_u64(right, 1);
         }
@@ -154,7 +154,7 @@ fn is_right(rows: &[u64; 2048], octets: &[u8; 52416], slot: u8) -> bool {
         return known.field == arrival % 128;
     }
     let mut out = [0u8; 273];
-    let count = store::message::copy_octets(octets, slot, size_of(arrival), &mut out);
+    let count = slots::message::copy_octets(octets, slot, size_of(arrival), &mut out);
     let message = message_of(arrival);
     known.heading == 0
         && text::part::same(
@@ -167,9 +167,9 @@ fn is_right(rows: &[u64; 2048], octets: &[u8; 52416], slot: u8) -> bool {
 fn empty_all(spans: &mut [u16; 70], rings: &mut [u8; 8960]) {
     let mut tried = 0u64;
     while tried < 8192 {
-        let held = store::ring::take(spans, rings, (tried % 32) as u8);
+        let held = rings::ring::take(spans, rings, (tried % 32) as u8);
         if held.found {
-            store::ring::put(
+            rings::ring::put(
                 spans,
                 rings,
                 if held.slot < 192 { 33 } else { 34 },

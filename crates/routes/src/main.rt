@@ -81,7 +81,7 @@ fn show_list(plan: Plan) {
     let links = all_open(plan);
     let marks = [0u32; 512];
     let mut out = [0u8; 4096];
-    let listed = routing::list::route_list(plan, &links, &marks, &mut out);
+    let listed = listing::list::route_list(plan, &links, &marks, &mut out);
     io::write_all(STDOUT_FILENO, text::part::between(&out, 0, listed.count));
 }
 

@@ -1,9 +1,6 @@
 pub mod Access
 pub mod ComingBack
-pub mod Examples
 pub mod InTurn
-pub mod Laid
-pub mod Lines
 pub mod Loss
 pub mod Ranks
 pub mod Serving

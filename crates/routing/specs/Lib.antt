@@ -1,4 +1,3 @@
 pub mod State
 pub mod Which
 pub mod Chosen
-pub mod RouteList

@@ -1,4 +1,3 @@
-// Which link a message takes, and what the route list says.
+// Which link a message takes.
 pub mod choose;
-pub mod list;
 pub mod state;

@@ -14,7 +14,7 @@ use Rattle.plan.specs.declared.data.Plan.{Plan}
 use Rattle.plan.proofs.Split.{both-false}
 use Rattle.replies.proofs.Rows.{none-applies}
 use Rattle.rows.specs.Rows.{recordAt}
-use Rattle.store.specs.Ring.{countOf}
+use Rattle.rings.specs.Ring.{countOf}
 use Rattle.lookup.specs.Lookup.{isLink}
 use Rattle.numbers.specs.Numbers.{sentOne, upTo, acknowledgedTo}
 use Rattle.sending.specs.Acknowledge.{outOfRange, isOpen, bInRange}

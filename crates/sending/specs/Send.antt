@@ -8,12 +8,12 @@ use lib.ListN.{length}
 use Rattle.plan.specs.declared.data.Plan.{Plan}
 use Rattle.rows.specs.declared.slot.Slot.{Slot}
 use Rattle.rows.specs.Rows.{recordAt, withRecord, slotAt}
-use Rattle.store.specs.Ring.{countOf, atOf}
-use Rattle.store.specs.Message.{copied, copiedSize}
+use Rattle.rings.specs.Ring.{countOf, atOf}
+use Rattle.slots.specs.Message.{copied, copiedSize}
 use Rattle.wire.specs.declared.header.Label.{Label}
-use Rattle.wire.specs.declared.management.MessageRead.{MessageRead}
-use Rattle.wire.specs.declared.management.MessageRead.the-variants.{Read, Malformed}
-use Rattle.wire.specs.Management.{listed, octetsOf, writtenInto, writtenCount}
+use Rattle.network.specs.declared.management.MessageRead.{MessageRead}
+use Rattle.network.specs.declared.management.MessageRead.the-variants.{Read, Malformed}
+use Rattle.network.specs.Management.{listed, octetsOf, writtenInto, writtenCount}
 use Rattle.replies.specs.declared.Answer.{Answer}
 use Rattle.replies.specs.Reply.{row, first, plain, ifDone}
 use Rattle.lookup.specs.Lookup.{isLink}

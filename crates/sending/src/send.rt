@@ -1,21 +1,21 @@
 // Send: the first unsent message of a link leaves, and stays in the queue.
 use lookup::is_link;
+use network::management::MessageRead;
+use network::management::listed;
+use network::management::write_message;
 use numbers::next_number;
 use numbers::sent_one;
 use plan::data::Plan;
 use replies::Answer;
 use replies::plain;
+use rings::ring::at;
+use rings::ring::count;
 use rows::link::load_link;
 use rows::link::store_link;
 use rows::slot::Slot;
 use rows::slot::load_slot;
-use store::message::copy_octets;
-use store::ring::at;
-use store::ring::count;
+use slots::message::copy_octets;
 use wire::header::Label;
-use wire::management::MessageRead;
-use wire::management::listed;
-use wire::management::write_message;
 ghost use mathlib.Core.Path.{_≡_};
 ghost use lib.ListN.{length};
 ghost use Rattle.sending.specs.Send as Send;

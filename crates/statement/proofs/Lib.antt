@@ -1,1 +1,1 @@
-pub mod Walked
+mod Walked

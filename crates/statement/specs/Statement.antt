@@ -1,14 +1,14 @@
 -- What a line says: "`node code ni`; `set number adjacent`; `link number set slc`; `route destination set rank`", and its fault 20 or
 -- 21. Whether the numbers are in range is asked where they are put into the plan.
 use Prim.Native.Nat.{ℕ}
-use mathlib.Core.Bool.{Bool, cond}
+use mathlib.Core.Bool.{cond}
 use mathlib.Core.List.{List, [], _∷_}
 use lib.ListN.{length, getD}
 use lib.Dec.{eqb}
 use Rattle.text.specs.Part.{sameText, split, tab}
-use Rattle.text.specs.Decimal.{numberOf}
-use Rattle.text.specs.declared.decimal.Number.{Number}
-use Rattle.text.specs.declared.decimal.Number.the-variants.{Value, Wrong}
+use Rattle.fields.specs.Fields.{number}
+use Rattle.numerals.specs.declared.decimal.Number.{Number}
+use Rattle.numerals.specs.declared.decimal.Number.the-variants.{Value, Wrong}
 use Rattle.statement.specs.declared.Word.{Word}
 use Rattle.statement.specs.declared.Word.the-variants.{Node, Set, Link, Route, Other}
 use Rattle.statement.specs.declared.Said.{Said}
@@ -36,9 +36,6 @@ abbrev pub withNumber : Number → (ℕ → Said) → Said
 withNumber (Value n) says = says n
 withNumber Wrong says = Faulty 21
 
-abbrev pub number : List ℕ → Number
-number field = numberOf field 18446744073709551615
-
 -- a word and its numbers
 abbrev pub says : Word → List ℕ → List ℕ → List ℕ → Said
 says word first second third =
@@ -56,10 +53,6 @@ saidBy fields =
 -- "Lines of decimal fields parted by tabs"
 abbrev pub readStatement : List ℕ → Said
 readStatement line = saidBy (split tab line)
-
--- how many fields there are, by which of the first four a tab closes; 5 for more than four
-abbrev pub counted : Bool → Bool → Bool → Bool → ℕ
-counted zero one two three = cond zero (cond one (cond two (cond three 5 4) 3) 2) 1
 
 -- the same by the count of the fields and the first four of them
 abbrev pub saysCounted : ℕ → Word → List ℕ → List ℕ → List ℕ → Said

@@ -1,8 +1,8 @@
 // What a line of a configuration says, before any of it is put into the plan.
-use text::decimal::Number;
-use text::decimal::decimal;
+use fields::first_four;
+use numerals::decimal::Number;
+use numerals::decimal::decimal;
 use text::part::between;
-use text::part::field;
 use text::part::same;
 ghost use mathlib.Core.Path.{_≡_};
 ghost use lib.Seq.{slice};
@@ -35,35 +35,12 @@ pub enum Said {
 pub fn read_statement(text: &[u8], at: usize, to: usize) -> Said
     ensures { λ r. ⌜ r ≡ Statement·.readStatement (slice at to (now (text .entry))) ⌝ }
 {
-    let zero = field(text, at, to);
-    let one = field(text, zero.next, to);
-    let two = field(text, one.next, to);
-    let three = field(text, two.next, to);
-    let count = counted(zero.closed, one.closed, two.closed, three.closed);
-    let word = read_word(between(text, at, zero.end));
-    let first = between(text, zero.next, one.end);
-    let second = between(text, one.next, two.end);
-    let third = between(text, two.next, three.end);
-    says_counted(count, word, first, second, third)
-}
-
-// How many fields there are by which of the first four a tab closes; 5 for more than four.
-fn counted(zero: bool, one: bool, two: bool, three: bool) -> u8
-    ensures { λ r. ⌜ r ≡ Statement·.counted zero one two three ⌝ }
-{
-    if !zero {
-        return 1;
-    }
-    if !one {
-        return 2;
-    }
-    if !two {
-        return 3;
-    }
-    if !three {
-        return 4;
-    }
-    5
+    let found = first_four(text, at, to);
+    let word = read_word(between(text, at, found.zero.end));
+    let first = between(text, found.zero.next, found.one.end);
+    let second = between(text, found.one.next, found.two.end);
+    let third = between(text, found.two.next, found.three.end);
+    says_counted(found.count, word, first, second, third)
 }
 
 fn says_counted(count: u8, word: Word, first: &[u8], second: &[u8], third: &[u8]) -> Said

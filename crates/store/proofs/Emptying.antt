@@ -6,9 +6,9 @@ use native.Mathlib.Nat.{zero-add}
 use native.Mathlib.Omega.{arith}
 use lib.ListN.{length, take, set}
 use lib.Seq.{sets, take-all}
-use Rattle.store.specs.Run.{run}
+use Rattle.rings.specs.Run.{run}
 use Rattle.store.specs.Fresh.{emptied}
-use Rattle.store.proofs.Runs.{run-length, run-at, sets-next}
+use Rattle.rings.proofs.Runs.{run-length, run-at, sets-next}
 
 -- of so many words of an area the first `i` are 0, all else is as it was
 abbrev pub Emptying : ℕ → List ℕ → List ℕ → ℕ → Type 0

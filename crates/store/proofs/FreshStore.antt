@@ -12,14 +12,14 @@ use borrow.Author.Tests.{lt-ltb, le-ltb, eq-eqb, ne-eqb, ltb-true, ltb-false}
 use Rattle.rows.specs.Rows.{spanAt, withSpan, wordAt}
 use Rattle.rows.specs.declared.span.Span.{Span}
 use Rattle.rows.proofs.Laws.{row-same, row-other, row-length}
-use Rattle.store.specs.Run.{run}
-use Rattle.store.specs.Ring.{cell, countOf, entry, queue}
+use Rattle.rings.specs.Run.{run}
+use Rattle.rings.specs.Ring.{cell, countOf, entry, queue}
 use Rattle.store.specs.Fresh.{emptied, inOrder, listed, freshSpans, freshRings}
 use Rattle.store.specs.Sound.{tally, sum, held, is, user, management, Sound, Kinds}
-use Rattle.store.proofs.Runs.{run-length, run-same, run-at}
+use Rattle.rings.proofs.Runs.{run-length, run-same, run-at}
 use borrow.Table.Steps.{cases}
-use Rattle.store.proofs.Spans.{span-same, span-other, span-length}
-use Rattle.store.proofs.Queues.{queue-none}
+use Rattle.rings.proofs.Spans.{span-same, span-other, span-length}
+use Rattle.rings.proofs.Queues.{queue-none}
 use Rattle.store.proofs.Moves.{count-part}
 use Rattle.store.proofs.Sums.{sum-none, sum-two}
 use Rattle.store.proofs.Tallies.{run-none, run-once}

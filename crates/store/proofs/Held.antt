@@ -6,10 +6,10 @@ use Prim.Native.Nat.{ℕ, _+_, _≤_, _<_}
 use native.Mathlib.Omega.{arith}
 use lib.Dec.{ltb}
 use lib.ListN.{length, getD}
-use Rattle.store.specs.Ring.{countOf, queue, takeOf, spansTaken, roomIn, spansPut, ringsPut}
+use Rattle.rings.specs.Ring.{countOf, queue, takeOf, spansTaken, roomIn, spansPut, ringsPut}
 use Rattle.store.specs.Sound.{bit, tally, sum, held, is}
-use Rattle.store.proofs.Spans.{ring-there, room-ring}
-use Rattle.store.proofs.Queues.{queue-length, taken-queue, taken-other, put-queue, put-other}
+use Rattle.rings.proofs.Spans.{ring-there, room-ring}
+use Rattle.rings.proofs.Queues.{queue-length, taken-queue, taken-other, put-queue, put-other}
 use Rattle.store.proofs.Sums.{sum-same, sum-change, sum-part, sum-add, sum-swap}
 use Rattle.store.proofs.Tallies.{tally-head, tally-end, tally-both, tally-all, tally-some, tally-below}
 

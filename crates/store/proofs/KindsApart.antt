@@ -8,12 +8,12 @@ use native.Mathlib.Omega.{arith}
 use lib.Dec.{eqb}
 use lib.ListN.{length, getD}
 use borrow.Author.Tests.{eqb-true, eqb-false, ltb-true, ltb-false, not-true}
-use Rattle.store.specs.Ring.{countOf, queue, takeOf, spansTaken, spansPut, ringsPut}
-use Rattle.store.specs.Move.{spansMoved, ringsMoved}
+use Rattle.rings.specs.Ring.{countOf, queue, takeOf, spansTaken, spansPut, ringsPut}
+use Rattle.rings.specs.Move.{spansMoved, ringsMoved}
 use Rattle.store.specs.Sound.{tally, sum, held, is, user, management, Sound, Kinds, Suits}
 use borrow.Table.Steps.{cases}
-use Rattle.store.proofs.Spans.{taken-length}
-use Rattle.store.proofs.Queues.{queue-length, found-some, taken-head, taken-other, put-other}
+use Rattle.rings.proofs.Spans.{taken-length}
+use Rattle.rings.proofs.Queues.{queue-length, found-some, taken-head, taken-other, put-other}
 use Rattle.store.proofs.Sums.{sum-ones, sum-two}
 use Rattle.store.proofs.Tallies.{tally-both, tally-some}
 use Rattle.store.proofs.Held.{held-both, held-below, taken-tally, put-tally}

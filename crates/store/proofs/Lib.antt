@@ -1,10 +1,4 @@
-pub mod Cases
-pub mod Runs
 pub mod Emptying
-pub mod Steps
-pub mod Messages
-pub mod Spans
-pub mod Queues
 pub mod Sums
 pub mod Tallies
 pub mod Held
@@ -12,4 +6,4 @@ pub mod Moves
 pub mod Places
 pub mod KindsApart
 pub mod FreshStore
-pub mod ReadBack
+pub mod Written

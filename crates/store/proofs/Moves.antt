@@ -8,13 +8,13 @@ use native.Mathlib.Omega.{arith}
 use lib.Dec.{ltb}
 use lib.ListN.{length, getD, length-set}
 use borrow.Author.Tests.{eq-eqb, ltb-true, ltb-false}
-use Rattle.store.specs.Ring.{countOf, queue, takeOf, spansTaken, roomIn, spansPut, ringsPut}
-use Rattle.store.specs.Move.{spansMoved, ringsMoved}
+use Rattle.rings.specs.Ring.{countOf, queue, takeOf, spansTaken, roomIn, spansPut, ringsPut}
+use Rattle.rings.specs.Move.{spansMoved, ringsMoved}
 use Rattle.store.specs.Sound.{bit, sum, held, is, Sound}
-use Rattle.store.proofs.Steps.{no-ring, room-there}
+use Rattle.rings.proofs.Steps.{no-ring, room-there}
 use borrow.Table.Steps.{cases}
-use Rattle.store.proofs.Spans.{taken-length, put-length}
-use Rattle.store.proofs.Queues.{found-some, taken-head, put-queue}
+use Rattle.rings.proofs.Spans.{taken-length, put-length}
+use Rattle.rings.proofs.Queues.{found-some, taken-head, put-queue}
 use Rattle.store.proofs.Sums.{sum-part, sum-ones}
 use Rattle.store.proofs.Held.{held-taken, held-put, held-all, held-both, held-below, held-some}
 

@@ -7,12 +7,12 @@ use native.Mathlib.Omega.{arith}
 use lib.Dec.{eqb}
 use lib.ListN.{getD}
 use borrow.Author.Tests.{eq-eqb, eqb-true, eqb-false}
-use Rattle.store.specs.Ring.{countOf, queue}
+use Rattle.rings.specs.Ring.{countOf, queue}
 use Rattle.store.specs.Sound.{tally, held, is, Sound}
 use Rattle.store.specs.Place.{Place}
 use borrow.Table.Steps.{cases}
-use Rattle.store.proofs.Spans.{ring-there}
-use Rattle.store.proofs.Queues.{queue-length}
+use Rattle.rings.proofs.Spans.{ring-there}
+use Rattle.rings.proofs.Queues.{queue-length}
 use Rattle.store.proofs.Sums.{sum-part, sum-parts, sum-some}
 use Rattle.store.proofs.Tallies.{tally-some, tally-twice, tally-place}
 use Rattle.store.proofs.Moves.{slot-below}

@@ -8,7 +8,7 @@ use native.Mathlib.Omega.{arith}
 use lib.Dec.{ltb, eqb}
 use lib.ListN.{length, getD}
 use borrow.Author.Tests.{lt-ltb, le-ltb, ltb-true, ltb-false, eqb-true, eqb-false}
-use Rattle.store.specs.Run.{run}
+use Rattle.rings.specs.Run.{run}
 use Rattle.store.specs.Sound.{bit, tally, sum, is}
 use borrow.Table.Steps.{cases}
 use Rattle.store.proofs.Sums.{sum-none, sum-add}

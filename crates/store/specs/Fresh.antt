@@ -3,7 +3,7 @@ use Prim.Native.Nat.{ℕ, _+_, _%_}
 use mathlib.Core.List.{List}
 use lib.Seq.{sets}
 use Rattle.rows.specs.Rows.{withRow, withSpan}
-use Rattle.store.specs.Run.{run}
+use Rattle.rings.specs.Run.{run}
 
 -- the first words of an area are 0
 unfoldable pub emptied : List ℕ → ℕ → List ℕ

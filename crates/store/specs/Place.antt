@@ -3,7 +3,7 @@ use Prim.Native.Nat.{ℕ, _<_}
 use mathlib.Core.Path.{_≡_}
 use mathlib.Core.List.{List}
 use lib.ListN.{getD}
-use Rattle.store.specs.Ring.{countOf, queue}
+use Rattle.rings.specs.Ring.{countOf, queue}
 
 pub record Place (spans rings : List ℕ) (slot : ℕ) : Type 0 where
   pub ring : ℕ

@@ -5,7 +5,7 @@ use mathlib.Core.Bool.{Bool, true, cond, not}
 use mathlib.Core.List.{List, [], _∷_}
 use lib.Dec.{ltb, eqb}
 use lib.ListN.{length}
-use Rattle.store.specs.Ring.{countOf, queue}
+use Rattle.rings.specs.Ring.{countOf, queue}
 
 -- 1 where a test holds, else 0
 abbrev pub bit : Bool → ℕ

@@ -9,8 +9,8 @@ use borrow.Author.Tests.{eqb-true}
 use borrow.Table.Steps.{cases}
 use Rattle.plan.specs.declared.data.Plan.{Plan}
 use Rattle.rows.specs.Rows.{recordAt}
-use Rattle.wire.specs.declared.management.Message.{Message}
-use Rattle.wire.specs.declared.management.Message.the-variants.{COO, COA, CBD, CBA, ECO, ECA, TFP, TFA, RST}
+use Rattle.network.specs.declared.management.Message.{Message}
+use Rattle.network.specs.declared.management.Message.the-variants.{COO, COA, CBD, CBA, ECO, ECA, TFP, TFA, RST}
 use Rattle.replies.specs.Reply.{Row, row, first}
 use Rattle.replies.specs.Areas.{Areas, Outcome}
 use Rattle.lookup.specs.Lookup.{linkNamed}

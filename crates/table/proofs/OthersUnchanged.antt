@@ -27,7 +27,7 @@ use Rattle.rerouting.specs.Timer.{replyT6, replyT10, testOf, replyOf, expiredT6
 use Rattle.passing.specs.Pass.{placeReply, octetsQueued}
 use Rattle.passing.specs.Host.{offered, fromHostBy, sent, octetsOffered, octetsBy, octetsSent}
 use Rattle.passing.specs.Host as Host
-use Rattle.routing.specs.RouteList.{listReply, listOf, laid}
+use Rattle.listing.specs.RouteList.{listReply, listOf, laid}
 use Rattle.waiting.specs.Wait as Wait
 use Rattle.sending.specs.Send as Send
 use Rattle.sending.specs.Acknowledge as Acknowledge

@@ -10,8 +10,8 @@ use borrow.Table.Steps.{cases}
 use borrow.Author.Tests.{eqb-true}
 use Rattle.plan.specs.declared.data.Plan.{Plan}
 use Rattle.wire.specs.declared.header.Label.{Label}
-use Rattle.wire.specs.declared.management.Message.{Message}
-use Rattle.wire.specs.declared.management.Message.the-variants.{COO, COA, CBD, CBA, ECO, ECA, TFP, TFA, RST}
+use Rattle.network.specs.declared.management.Message.{Message}
+use Rattle.network.specs.declared.management.Message.the-variants.{COO, COA, CBD, CBA, ECO, ECA, TFP, TFA, RST}
 use Rattle.replies.specs.Reply.{Row, first}
 use Rattle.replies.specs.Areas.{Areas, Outcome, refused, judged, withMarks}
 use Rattle.queueing.specs.Queue.{userOctets, managementReply}

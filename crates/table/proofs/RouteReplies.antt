@@ -18,7 +18,7 @@ use Rattle.making.specs.declared.Draft.{Draft}
 use Rattle.making.specs.Make.{hasPath, makesReply}
 use Rattle.making.specs.Make as Make
 use Rattle.rerouting.specs.Timer.{isDestination, replyOf, replyT6, replyT10, testOf, expiredT6, expiredT10}
-use Rattle.routing.specs.RouteList.{listReply}
+use Rattle.listing.specs.RouteList.{listReply}
 use Rattle.node.specs.Memory.{Memory}
 use Rattle.table.specs.Table.{t6Rows, t8Rows, t10Rows, routeListRows}
 use Rattle.table.proofs.Continued.{continued, with-two}

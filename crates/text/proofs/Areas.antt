@@ -1,31 +1,15 @@
--- Facts on lent areas: an area that is filled from its start, and a part of an area that was filled and comes back.
+-- Facts on lent areas: a part of an area that was filled and comes back.
 -- Assumes nothing.
 use mathlib.Core.Path.{_≡_, refl}
 use mathlib.Core.Bool.{true, false}
 use mathlib.Core.List.{List, [], _++_, append-nil}
 use Prim.Native.Nat.{ℕ, _+_, _-_, _≤_, _<_}
-use native.Mathlib.Nat.{zero-add}
-use native.Mathlib.Numerals.{add-one}
 use native.Mathlib.Omega.{arith}
-use lib.ListN.{length, take, drop, getD, set, length-drop, drop-of-length-le}
-use lib.Seq.{take-all, take-length, drop-drop, paste-suc}
+use lib.ListN.{length, drop, length-drop, drop-of-length-le}
+use lib.Seq.{take-all, drop-drop}
 use borrow.Author.Tests.{le-leb, lt-leb}
 use borrow.Rule.Slice.PartMut.{midOf, putMid}
 use Rattle.text.specs.Put.{room, written, past}
-
--- an area with the first n of some octets at its start
-abbrev pub begun : List ℕ → List ℕ → ℕ → List ℕ
-begun octets area n = take n octets ++ drop n area
-
--- the next octet is stored
-pub begun-next : (octets area now : List ℕ) (n x : ℕ) → now ≡ begun octets area n → x ≡ getD octets n 0
-    → n < length octets → n < length area → set now n x ≡ begun octets area (n + 1)
-begun-next octets area now n x so-far next h k =
-    simp (so-far, next, add-one) (simp zero-add at (paste-suc area 0 octets n 0 (simp zero-add k) h))
-
--- all of them are
-pub begun-all : (octets area : List ℕ) (n : ℕ) → n ≡ length octets → begun octets area n ≡ octets ++ drop (length octets) area
-begun-all octets area n all = simp (all, take-length)
 
 -- what lies from a place on is the whole part from there to the end
 pub rest-whole : (at n : ℕ) (area : List ℕ) → length area ≡ n → midOf at (n - at) area ≡ drop at area

@@ -1,6 +1,3 @@
 pub mod Areas
-pub mod Ranges
-pub mod Decimals
-pub mod Octets
 pub mod Parts
 pub mod Same

@@ -1,4 +1,2 @@
 pub mod Part
 pub mod Put
-pub mod Decimal
-pub mod Hex

@@ -45,6 +45,11 @@ unfoldable pub split : ℕ → List ℕ → List (List ℕ)
 split mark [] = [] ∷ []
 split mark (x ∷ text) = cond (eqb x mark) ([] ∷ split mark text) (onFirst x (split mark text))
 
+-- a text of no octets
+abbrev pub isEmpty : List ℕ → Bool
+isEmpty [] = true
+isEmpty (c ∷ rest) = false
+
 -- whether two texts are the same, octet by octet
 unfoldable pub sameText : List ℕ → List ℕ → Bool
 sameText [] [] = true

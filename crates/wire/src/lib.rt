@@ -1,3 +1,2 @@
-// Octets on the wire: SIO and label of every message, and the nine management messages, read and written.
+// Octets on the wire: SIO and label of every message.
 pub mod header;
-pub mod management;

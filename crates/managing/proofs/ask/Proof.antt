@@ -2,7 +2,7 @@
 -- Assumes nothing.
 use borrow.Author.Needs.{needs}
 use mathlib.Core.Path.{_≡_, sym, ap, _∙_}
-use Rattle.wire.specs.declared.management.Message.{Message}
+use Rattle.network.specs.declared.management.Message.{Message}
 use Rattle.managing.specs.Managed.{asked}
 use Rattle.managing.proofs.ask.Statement.{statement}
 use Rattle.managing.proofs.ask.Tie as tie

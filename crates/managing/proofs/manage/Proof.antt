@@ -1,7 +1,7 @@
 -- `managing::manage` meets its contract: in each arm the message is that arm's, and what is called leaves what it is to leave.
 -- Assumes nothing.
 use borrow.Author.Needs.{needs}
-use Rattle.wire.specs.declared.management.Message.the-variants.{CBA, TFP, TFA}
+use Rattle.network.specs.declared.management.Message.the-variants.{CBA, TFP, TFA}
 use Rattle.replies.specs.Areas.{Areas, areas}
 use Rattle.managing.specs.Managed.{managed}
 use Rattle.managing.proofs.Answering.{in-all}

@@ -5,8 +5,11 @@ use mathlib.Core.Path.{sym, ap, _∙_}
 use mathlib.Core.List.{List, []}
 use Prim.Native.Nat.{ℕ}
 use lib.ListN.{getD}
+use lib.Seq.{slice}
 use Rattle.statement.specs.Statement.{wordOf}
-use Rattle.statement.proofs.Walked.{behind}
+use Rattle.text.specs.Part.{tab}
+use Rattle.text.specs.declared.part.Part.{Part}
+use Rattle.text.proofs.Parts.{first-part}
 use Rattle.configuration.proofs.configure.first_word.Statement.{statement}
 use Rattle.configuration.proofs.configure.first_word.Tie as tie
 
@@ -22,9 +25,12 @@ read-word-requires c κs = search needs
 returns : tie.Need-returns
 returns c =
     let a = c .before .before .before .before .args in
-    let fields = behind (a .text .now) (a .at) (a .to) (c .before .before .field .result) (c .before .before .field .ensures) in
+    let first = c .before .before .field in
     c .read-word .ensures
-    ∙ ap wordOf (c .before .between .ensures ∙ sym (ap (λ (l : List (List ℕ)). getD l 0 []) fields))
+    ∙ ap wordOf
+    (c .before .between .ensures
+    ∙ ap (λ (p : Part). slice (a .at) (p .end) (a .text .now)) (first .ensures)
+    ∙ sym (ap (λ (l : List (List ℕ)). getD l 0 []) (first-part tab (a .text .now) (a .at) (a .to))))
 
 pub first-word-spec : {M : Type 1} → statement M
 first-word-spec = tie.close (tie.spec field-requires between-requires read-word-requires returns)

@@ -6,7 +6,7 @@ use mathlib.Core.List.{_++_}
 use Prim.Native.Nat.{ℕ}
 use native.Mathlib.Nat.{zero-add}
 use lib.ListN.{length, drop}
-use Rattle.routing.specs.RouteList.{listed}
+use Rattle.listing.specs.RouteList.{listed}
 use Rattle.node.proofs.call.list.Statement.{statement}
 use Rattle.node.proofs.call.list.Tie as tie
 

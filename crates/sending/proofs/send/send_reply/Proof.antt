@@ -9,7 +9,7 @@ use borrow.Author.Needs.{needs}
 use borrow.Author.Tests.{lt-ltb, le-ltb, le-leb, lt-leb, eq-eqb, ne-eqb}
 use Rattle.replies.specs.Reply.{row, first}
 use Rattle.rows.specs.declared.link.LinkRecord.{LinkRecord}
-use Rattle.store.specs.Ring.{countOf}
+use Rattle.rings.specs.Ring.{countOf}
 use Rattle.sending.specs.Send.{replyOf}
 use Rattle.sending.proofs.FirstRows.{link-out-of-range, other-out-of-range, not-configured, configured}
 use Rattle.sending.proofs.send.send_reply.Statement.{statement}

@@ -10,9 +10,9 @@ use native.Mathlib.Omega.{arith}
 use lib.ListN.{length, take, set}
 use lib.Seq.{sets, take-all}
 use borrow.Author.Tests.{lt-ltb, le-ltb}
-use Rattle.store.specs.Run.{run}
+use Rattle.rings.specs.Run.{run}
 use Rattle.store.specs.Fresh.{inOrder, listed}
-use Rattle.store.proofs.Runs.{run-length, run-at, sets-next}
+use Rattle.rings.proofs.Runs.{run-length, run-at, sets-next}
 use Rattle.store.proofs.fresh.list.Statement.{statement}
 use Rattle.store.proofs.fresh.list.Tie as tie
 

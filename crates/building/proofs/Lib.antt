@@ -1,0 +1,4 @@
+pub mod DestinationKept
+pub mod Faults
+pub mod Kept
+pub mod LinkKept

@@ -1,0 +1,2 @@
+// How one statement more is put into the plan.
+pub mod add;

@@ -1,0 +1,2 @@
+// One entry more in a table of the plan.
+pub mod insert;

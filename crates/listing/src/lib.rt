@@ -1,0 +1,2 @@
+// The route list: which link each destination and SLS has.
+pub mod list;

@@ -1,0 +1,4 @@
+pub mod Written
+pub mod ReadBack
+pub mod SpareBits
+pub mod Examples

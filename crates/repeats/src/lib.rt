@@ -1,0 +1,2 @@
+// What a statement repeats: whether something is taken already.
+pub mod taken;

@@ -1,0 +1,5 @@
+pub mod Cases
+pub mod Runs
+pub mod Steps
+pub mod Spans
+pub mod Queues
