@@ -3,8 +3,17 @@
 use crate::random::Random;
 
 const HIGHEST_CODE: usize = 16_383;
-const MOST_LINKS: usize = 12;
-const MOST_DESTINATIONS: usize = 20;
+
+/// Few links and destinations, so that their events meet; or as many as the tables hold.
+struct Size {
+    sets: (usize, usize),
+    most_links: usize,
+    most_destinations: usize,
+    full: bool,
+}
+
+const USUAL: Size = Size { sets: (2, 5), most_links: 12, most_destinations: 20, full: false };
+const FULL: Size = Size { sets: (6, 8), most_links: 32, most_destinations: 64, full: true };
 
 struct Arrangement {
     /// Our own code, then those of the adjacent points, then the other destinations.
@@ -13,9 +22,11 @@ struct Arrangement {
     lines: Vec<String>,
 }
 
-pub fn random_configuration(random: &mut Random) -> String {
-    let set_count = random.between(2, 5);
-    let others = random.between(1, MOST_DESTINATIONS - set_count);
+pub fn random_configuration(random: &mut Random, full: bool) -> String {
+    let size = if full { FULL } else { USUAL };
+    let set_count = random.between(size.sets.0, size.sets.1);
+    let room = size.most_destinations - set_count;
+    let others = random.between(if full { room } else { 1 }, room);
     let mut arrangement = Arrangement {
         codes: random.distinct(1 + set_count + others, HIGHEST_CODE),
         sets: random.distinct(set_count, 7),
@@ -25,8 +36,8 @@ pub fn random_configuration(random: &mut Random) -> String {
         let edge = random.pick(&[0, HIGHEST_CODE]).expect("two edges");
         arrangement.use_code(random, edge);
     }
-    arrangement.add_links(random);
-    arrangement.add_routes(random);
+    arrangement.add_links(random, &size);
+    arrangement.add_routes(random, &size);
     random.shuffle(&mut arrangement.lines);
     arrangement.text(random)
 }
@@ -40,31 +51,37 @@ impl Arrangement {
         }
     }
 
-    fn add_links(&mut self, random: &mut Random) {
-        let count = random.between(self.sets.len(), MOST_LINKS);
-        let numbers = random.distinct(count, 31);
-        let mut sizes = vec![0; self.sets.len()];
-        for place in 0..count {
-            let at = if place < sizes.len() { place } else { random.below(sizes.len()) };
-            sizes[at] = (sizes[at] + 1).min(8);
-        }
-        if random.one_in(8) {
-            sizes[0] = 0;
-        }
-        let mut numbers = numbers.into_iter();
-        for (place, size) in sizes.into_iter().enumerate() {
-            for slc in random.distinct(size, 15) {
+    fn add_links(&mut self, random: &mut Random, size: &Size) {
+        let fewest = if size.full { size.most_links } else { self.sets.len() };
+        let count = random.between(fewest, size.most_links);
+        let mut numbers = random.distinct(count, 31).into_iter();
+        for (place, links) in self.links_of_sets(random, count).into_iter().enumerate() {
+            for slc in random.distinct(links, 15) {
                 let number = numbers.next().expect("enough numbers");
                 self.lines.push(format!("link\t{number}\t{}\t{slc}\n", self.sets[place]));
             }
         }
     }
 
-    fn add_routes(&mut self, random: &mut Random) {
+    /// How many links each set has: at most 8, and now and then none at all.
+    fn links_of_sets(&self, random: &mut Random, count: usize) -> Vec<usize> {
+        let mut links = vec![0; self.sets.len()];
+        for place in 0..count {
+            let with_room: Vec<usize> = (0..links.len()).filter(|set| links[*set] < 8).collect();
+            let set = if place < links.len() { Some(place) } else { random.pick(&with_room) };
+            links[set.expect("a set with room")] += 1;
+        }
+        if random.one_in(8) {
+            links[0] = 0;
+        }
+        links
+    }
+
+    fn add_routes(&mut self, random: &mut Random, size: &Size) {
         for place in 1..self.codes.len() {
             let own_set = place - 1;
             let adjacent = own_set < self.sets.len();
-            if adjacent && random.one_in(10) {
+            if adjacent && !size.full && random.one_in(10) {
                 continue; // an adjacent point without a route line
             }
             let count = random.between(1, self.sets.len().min(4));
@@ -94,4 +111,38 @@ impl Arrangement {
         }
         text + &self.lines.concat()
     }
+}
+
+/// One fault, or what may be one, at some place of a configuration.
+pub fn spoil(random: &mut Random, text: &mut String) {
+    let at = random.below(text.len());
+    match random.below(8) {
+        0 => drop(text.remove(at)),
+        1 => text.insert(at, other_character(random)),
+        2 => text.replace_range(at..=at, &other_character(random).to_string()),
+        3 => spoil_number(random, text),
+        4 => text.truncate(at),
+        5 => *text = text.repeat(2),
+        6 => *text += &"#".repeat(16_384 - text.len() + random.below(2)),
+        _ => shuffle_lines(random, text),
+    }
+}
+
+fn other_character(random: &mut Random) -> char {
+    random.pick(&['\t', '\n', '\r', ' ', '0', '1', '7', '9', '-', 'n', 'x', '\0']).expect("some characters")
+}
+
+fn spoil_number(random: &mut Random, text: &mut String) {
+    let numbers: Vec<usize> = text.match_indices('\t').map(|(tab, _)| tab + 1).collect();
+    let from = random.pick(&numbers).expect("some numbers");
+    let digits = text[from..].bytes().take_while(u8::is_ascii_digit).count();
+    let others = ["0", "1", "3", "4", "7", "8", "15", "16", "31", "32", "16383", "16384", "65536", "007", "",
+        "18446744073709551616", "36893488147419103232"];
+    text.replace_range(from..from + digits, random.pick(&others).expect("some numbers"));
+}
+
+fn shuffle_lines(random: &mut Random, text: &mut String) {
+    let mut lines: Vec<&str> = text.split_inclusive('\n').collect();
+    random.shuffle(&mut lines[1..]);
+    *text = lines.concat();
 }

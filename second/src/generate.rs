@@ -2,9 +2,10 @@
 
 use std::collections::BTreeMap;
 
-use crate::arrangement::random_configuration;
+use crate::arrangement::{random_configuration, spoil};
 use crate::configuration;
-use crate::point::{Call, Link, LinkState, Reply};
+use crate::corners::sent_across_the_wrap;
+use crate::point::{Call, Link, LinkState, Reply, USER_PLACES, WINDOW};
 use crate::random::Random;
 use crate::record;
 use crate::replay::Run;
@@ -15,10 +16,19 @@ pub struct Generated {
     pub record: String,
 }
 
-/// In one seed of eight the last line can't be read.
+/// In one seed of eight the last line can't be read, in one the tables are full,
+/// and in one of sixteen the configuration is spoilt after the record was made for it.
 pub fn generate(seed: u64, lines: usize) -> Generated {
     let mut random = Random::new(seed);
-    let configuration = random_configuration(&mut random);
+    let faultless = random_configuration(&mut random, seed % 8 == 2);
+    let mut configuration = faultless.clone();
+    if seed % 16 == 5 {
+        spoil(&mut random, &mut configuration);
+    }
+    Generated { configuration, record: made_for(&faultless, seed, lines, random) }
+}
+
+fn made_for(configuration: &str, seed: u64, lines: usize, random: Random) -> String {
     let point = configuration::read(configuration.as_bytes()).expect("a faultless configuration");
     let mut maker = Maker::new(random, Run::new(point));
     let readable = if seed % 8 == 7 { lines.saturating_sub(1) } else { lines };
@@ -26,7 +36,7 @@ pub fn generate(seed: u64, lines: usize) -> Generated {
     if readable < lines {
         record += maker.unreadable_line();
     }
-    Generated { configuration, record }
+    record
 }
 
 /// Stretches of a record in which some events are more frequent.
@@ -42,6 +52,8 @@ enum Mood {
     Storm,
     /// One pair's messages are sent and not acknowledged.
     Window,
+    /// That pair's link goes on, with numbers that pass 127.
+    Passing,
     Rerouting,
 }
 
@@ -89,7 +101,10 @@ impl Mood {
                 (Failure, 9), (ChangeoverEnd, 9), (Order, 3), (Service, 10), (WaitingEnd, 4), (Host, 11),
                 (Transit, 9), (Send, 14), (Ack, 3), (T6, 1), (Cbd, 1), (Routes, 1),
             ],
-            Mood::Window => &[(Host, 20), (Send, 20), (Ack, 6), (T6, 1)],
+            Mood::Window => &[(Host, 22), (Send, 24), (Ack, 3), (T6, 1)],
+            Mood::Passing => &[
+                (Host, 8), (Transit, 3), (Send, 16), (Ack, 4), (Failure, 1), (Order, 1), (T6, 1),
+            ],
             Mood::Rerouting => &[
                 (Tfp, 9), (Tfa, 8), (T10, 3), (Rst, 3), (T6, 2), (T8, 2), (Host, 14), (Transit, 10),
                 (Send, 8), (Ack, 5), (Service, 2), (WaitingEnd, 2), (Failure, 1), (ChangeoverEnd, 1), (Routes, 1),
@@ -101,9 +116,10 @@ impl Mood {
     fn lines(self) -> (usize, usize) {
         match self {
             Mood::Burst => (140, 280),
-            Mood::Window => (380, 480),
+            Mood::Window => (360, 440),
             Mood::Jam => (100, 160),
             Mood::Recovery => (30, 60),
+            Mood::Passing => (40, 80),
             Mood::Ordinary | Mood::Storm | Mood::Rerouting => (60, 120),
         }
     }
@@ -116,7 +132,7 @@ pub(crate) struct Maker {
     taken: BTreeMap<u8, u8>,
     mood: Mood,
     lines_left: usize,
-    /// The pair that the mood Window fills.
+    /// The pair that the moods Window and Passing fill.
     focus: (u16, u8),
 }
 
@@ -127,7 +143,8 @@ impl Maker {
 
     fn next_line(&mut self) -> String {
         self.pass_mood();
-        let call = if self.random.one_in(10) { self.broken_call() } else { self.fitting_call() };
+        let one_broken_in = if self.mood == Mood::Window { 30 } else { 10 };
+        let call = if self.random.one_in(one_broken_in) { self.broken_call() } else { self.fitting_call() };
         let outcome = self.run.call(&call);
         if let (Call::Service(link), Reply::Done) = (&call, outcome.reply) {
             self.taken.insert(*link as u8, 127);
@@ -146,26 +163,54 @@ impl Maker {
     }
 
     fn pass_mood(&mut self) {
-        if self.lines_left > 0 && !(self.mood == Mood::Window && self.focused_link().is_none()) {
+        if self.lines_left > 0 && !self.focus_is_over() {
             self.lines_left -= 1;
             return;
         }
+        let keeps_focus = self.focused();
         let moods = match self.mood {
-            Mood::Burst | Mood::Jam | Mood::Window => &[Mood::Storm, Mood::Storm, Mood::Ordinary][..],
+            Mood::Window => &[Mood::Passing, Mood::Passing, Mood::Storm][..],
+            Mood::Burst | Mood::Jam | Mood::Passing => &[Mood::Storm, Mood::Storm, Mood::Ordinary],
             Mood::Storm => &[Mood::Recovery, Mood::Recovery, Mood::Rerouting, Mood::Ordinary],
-            _ => &[Mood::Burst, Mood::Jam, Mood::Window, Mood::Storm, Mood::Rerouting, Mood::Ordinary],
+            Mood::Recovery => &[Mood::Window, Mood::Window, Mood::Burst, Mood::Jam, Mood::Rerouting],
+            Mood::Ordinary | Mood::Rerouting => {
+                &[Mood::Burst, Mood::Jam, Mood::Window, Mood::Storm, Mood::Rerouting, Mood::Ordinary]
+            }
         };
         self.mood = self.random.pick(moods).expect("some moods");
         let (fewest, most) = self.mood.lines();
         self.lines_left = self.random.between(fewest, most);
-        let accessible = self.destination_where(|maker, code| maker.run.point.accessible(code));
-        let destination = accessible.unwrap_or_else(|| self.some_destination());
-        self.focus = (destination, self.random.below(16) as u8);
+        if !keeps_focus {
+            self.focus = self.new_focus();
+        }
     }
 
-    /// The link of the pair in focus, while it can send and nothing is held apart.
+    fn new_focus(&mut self) -> (u16, u8) {
+        let sls = self.random.below(16) as u8;
+        let sending = self.destination_where(|maker, code| maker.sending_link(code, sls).is_some());
+        (sending.unwrap_or_else(|| self.some_destination()), sls)
+    }
+
+    /// The link in focus can't send any more, or its window has been full for some lines.
+    fn focus_is_over(&mut self) -> bool {
+        let full = self.focused_link().map(|link| self.run.point.link(link).sent == WINDOW);
+        match full {
+            None => self.focused(),
+            Some(full) => full && self.mood == Mood::Window && self.random.one_in(10),
+        }
+    }
+
+    fn focused(&self) -> bool {
+        matches!(self.mood, Mood::Window | Mood::Passing)
+    }
+
     fn focused_link(&self) -> Option<u8> {
         let (dpc, sls) = self.focus;
+        self.sending_link(dpc, sls)
+    }
+
+    /// The link of a pair, while it can send and nothing is held apart.
+    fn sending_link(&self, dpc: u16, sls: u8) -> Option<u8> {
         let point = &self.run.point;
         let link = point.current_link(dpc, sls)?;
         let open = point.link(link).state == LinkState::Open;
@@ -193,6 +238,7 @@ impl Maker {
 
     fn call_for(&mut self, event: Event) -> Option<Call> {
         match event {
+            Event::Host if self.crowded() => None,
             Event::Host => self.host(),
             Event::Transit => self.transit(),
             Event::ToUs => self.delivered(),
@@ -212,6 +258,11 @@ impl Maker {
             Event::T10 => self.t10(),
             Event::Routes => Some(Call::Routes),
         }
+    }
+
+    /// A store full of other messages would keep the window from filling.
+    fn crowded(&mut self) -> bool {
+        self.focused() && self.run.point.user_held() == USER_PLACES && !self.random.one_in(6)
     }
 
     // Choosing links and destinations.
@@ -242,7 +293,7 @@ impl Maker {
 
     /// A pair for a user message: under T6 by preference, mostly accessible.
     fn pair_for_traffic(&mut self) -> (u16, u8) {
-        if self.mood == Mood::Window && !self.random.one_in(8) {
+        if self.focused() && !self.random.one_in(8) {
             return self.focus;
         }
         let sls = self.random.below(16) as u8;
@@ -345,7 +396,7 @@ impl Maker {
     fn send(&mut self) -> Option<Call> {
         let fits = |link: &Link| link.state == LinkState::Open && link.queue.len() > link.sent;
         let focused = self.focused_link().filter(|link| fits(self.run.point.link(*link)));
-        if self.mood == Mood::Window && focused.is_some() && !self.random.one_in(4) {
+        if self.focused() && focused.is_some() && !self.random.one_in(12) {
             return focused.map(|link| Call::Send(link as u64));
         }
         self.link_where(fits).map(|link| Call::Send(link as u64))
@@ -356,7 +407,8 @@ impl Maker {
         let (last, sent) = (self.run.point.link(link).last_acknowledged, self.run.point.link(link).sent);
         let known = self.taken.get(&link).map_or(0, |taken| wire::distance(last, *taken));
         let known = if known > sent { 0 } else { known };
-        let taken = wire::step_on(last, self.random.between(known, sent));
+        let more = if self.random.one_in(3) { sent } else { self.random.between(known, sent) };
+        let taken = wire::step_on(last, more);
         self.taken.insert(link, taken);
         taken
     }
@@ -364,7 +416,9 @@ impl Maker {
     fn ack(&mut self) -> Option<Call> {
         let spared = self.focused_link().filter(|_| self.mood == Mood::Window);
         let fits = |link: &Link| link.state == LinkState::Open && link.sent > 0 && Some(link.number) != spared;
-        let link = self.link_where(fits)?;
+        let favoured = self.focused_link().filter(|link| self.focused() && fits(self.run.point.link(*link)));
+        let link = if self.random.one_in(3) { None } else { favoured };
+        let link = link.or_else(|| self.link_where(fits))?;
         let taken = self.far_end_takes(link);
         let last = self.run.point.link(link).last_acknowledged;
         let number = match self.random.below(4) {
@@ -379,6 +433,12 @@ impl Maker {
     }
 
     fn failure(&mut self) -> Option<Call> {
+        if let Some(link) = self.link_in_focus() {
+            return Some(Call::Failure(link as u64));
+        }
+        if self.mood == Mood::Passing {
+            return None;
+        }
         let state = if self.random.one_in(4) { LinkState::Waiting } else { LinkState::Open };
         let links = self.links_where(|link| link.state == state);
         if links.len() == 1 && !self.random.one_in(4) {
@@ -388,9 +448,11 @@ impl Maker {
     }
 
     /// A changeover number: true, one in range, just out of range, or any.
+    /// Near the wrap the false ones are as frequent as the true ones.
     pub(crate) fn changeover_number(&mut self, link: u8) -> u8 {
         let (last, sent) = (self.run.point.link(link).last_acknowledged, self.run.point.link(link).sent);
-        match self.random.below(10) {
+        let least = if sent_across_the_wrap(self.run.point.link(link)) { 5 } else { 0 };
+        match self.random.between(least, 9) {
             0..=5 => self.far_end_takes(link),
             6 => wire::step_on(last, self.random.between(0, sent)),
             7 => wire::step_on(last, sent + 1),
@@ -401,9 +463,12 @@ impl Maker {
 
     fn changeover_end(&mut self) -> Option<Call> {
         let link = self.link_where(|link| link.state == LinkState::Changing)?;
-        let t2 = self.run.point.link(link).t2;
+        let (t2, wraps) = (self.run.point.link(link).t2, sent_across_the_wrap(self.run.point.link(link)));
         let fsn = self.changeover_number(link);
+        // Across the wrap, which is rare, always by a number.
         match self.random.below(10) {
+            0..=4 if t2 && wraps => self.about(link, Management::Coa { fsn }),
+            _ if wraps => self.about(link, Management::Coo { fsn }),
             0 if t2 => Some(Call::T2(link as u64)),
             0..=3 if !t2 => Some(Call::T1(link as u64)),
             0..=5 if t2 => self.about(link, Management::Coa { fsn }),
@@ -413,15 +478,27 @@ impl Maker {
         }
     }
 
+    /// The link filled before, so that changeovers meet full windows: always if its numbers
+    /// pass 127, else one time in three, but not while they are about to.
+    fn link_in_focus(&mut self) -> Option<u8> {
+        let link = self.focused_link()?;
+        let passing = sent_across_the_wrap(self.run.point.link(link));
+        let meant = passing || self.mood != Mood::Passing && self.random.one_in(3);
+        meant.then_some(link)
+    }
+
     /// COO or ECO about a link that isn't changing here: open, waiting, or by then out.
     fn order(&mut self) -> Option<Call> {
+        let focus = self.link_in_focus();
         let link = match self.random.below(5) {
+            _ if focus.is_some() || self.mood == Mood::Passing => focus?,
             0 => self.link_where(|link| !link.carrying())?,
             1 => self.link_where(|link| link.state == LinkState::Waiting)?,
             _ => self.link_where(|link| link.state == LinkState::Open)?,
         };
         let fsn = self.changeover_number(link);
-        let order = if self.random.one_in(3) { Management::Eco } else { Management::Coo { fsn } };
+        let wraps = sent_across_the_wrap(self.run.point.link(link));
+        let order = if !wraps && self.random.one_in(3) { Management::Eco } else { Management::Coo { fsn } };
         self.about(link, order)
     }
 
@@ -462,7 +539,7 @@ impl Maker {
     fn mark_order(&mut self, allow: bool) -> Option<Call> {
         let mut routes = self.routes_marked(allow);
         let under_t6 = |route: &(u16, u8)| self.run.point.destinations[&route.0].t6;
-        if routes.iter().any(under_t6) && self.random.one_in(3) {
+        if routes.iter().any(under_t6) && self.random.one_in(2) {
             routes.retain(|(code, _)| self.run.point.destinations[code].t6);
         }
         let (destination, set) = self.random.pick(&routes)?;
@@ -492,8 +569,8 @@ impl Maker {
             let point = &maker.run.point;
             point.destinations[&code].t6 && !point.accessible(code)
         });
-        let code = if self.random.one_in(2) { cut_off.or(any)? } else { any? };
-        Some(Call::T6(code as u64))
+        let others = if self.random.one_in(4) { any } else { None };
+        cut_off.or(others).map(|code| Call::T6(code as u64))
     }
 
     fn t8(&mut self) -> Option<Call> {

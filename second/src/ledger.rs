@@ -2,6 +2,7 @@
 //! and what a call may have changed.
 
 use std::collections::{BTreeMap, BTreeSet};
+use std::rc::Rc;
 
 use crate::point::{Call, Link, LinkState, Message, Outcome, Output, Reply, Report, TransferPoint};
 use crate::point::{MANAGEMENT_PLACES, USER_PLACES, WINDOW};
@@ -18,7 +19,7 @@ enum Fate {
 pub struct Ledger {
     fates: BTreeMap<u64, Fate>,
     /// Octets of each held number as they were when it was given.
-    octets: BTreeMap<u64, Vec<u8>>,
+    octets: BTreeMap<u64, Rc<[u8]>>,
     /// Of each link, the FSN and arrival number of what left and is still in its queue.
     on_the_wire: BTreeMap<u8, Vec<(u8, u64)>>,
 }
@@ -54,9 +55,9 @@ impl Ledger {
         });
         let acknowledged = effects.acknowledged.iter().map(|arrival| (*arrival, Fate::Acknowledged));
         let retired = effects.retired.iter().map(|arrival| (*arrival, Fate::Retired));
-        let held: BTreeSet<u64> = before.held().map(|message| message.arrival).collect();
         for (arrival, fate) in dropped.chain(acknowledged).chain(retired) {
-            demand(held.contains(&arrival), || format!("{arrival} has {fate:?} but wasn't held"))?;
+            let held = before.held().any(|message| message.arrival == arrival);
+            demand(held, || format!("{arrival} has {fate:?} but wasn't held"))?;
             let earlier = self.fates.insert(arrival, fate);
             demand(earlier.is_none(), || format!("{arrival} has {fate:?} after {earlier:?}"))?;
             self.octets.remove(&arrival);
@@ -71,16 +72,19 @@ impl Ledger {
         };
         let link = before.link(*link as u8);
         let message = &link.queue[link.sent];
-        demand(message.octets == *octets, || format!("other octets left than those of {}", message.arrival))?;
+        demand(*message.octets == **octets, || format!("other octets left than those of {}", message.arrival))?;
         self.on_the_wire.entry(link.number).or_default().push((*fsn, message.arrival));
         Ok(())
     }
 
     /// Every arrival number ever given is in exactly one place.
     fn check_places(&mut self, after: &TransferPoint) -> Check {
-        let mut held = BTreeSet::new();
+        let mut held: Vec<u64> = after.held().map(|message| message.arrival).collect();
+        held.sort_unstable();
+        if let Some(pair) = held.windows(2).find(|pair| pair[0] == pair[1]) {
+            return Err(format!("{} is held twice", pair[0]));
+        }
         for Message { arrival, octets, .. } in after.held() {
-            demand(held.insert(*arrival), || format!("{arrival} is held twice"))?;
             demand(*arrival < after.next_arrival, || format!("{arrival} was never given"))?;
             demand(!self.fates.contains_key(arrival), || format!("{arrival} is held after its end"))?;
             let given = self.octets.entry(*arrival).or_insert_with(|| octets.clone());
@@ -96,10 +100,13 @@ impl Ledger {
     fn check_wire(&mut self, after: &TransferPoint) -> Check {
         for link in after.links.values() {
             let wire = self.on_the_wire.entry(link.number).or_default();
-            let queued: BTreeSet<u64> = link.queue.iter().map(|message| message.arrival).collect();
-            wire.retain(|(_, arrival)| queued.contains(arrival));
-            demand(*wire == numbered(link), || {
-                format!("link {} has {:?} on the wire, its queue says {:?}", link.number, wire, numbered(link))
+            let numbered = numbered(link);
+            if *wire != numbered {
+                let queued: BTreeSet<u64> = link.queue.iter().map(|message| message.arrival).collect();
+                wire.retain(|(_, arrival)| queued.contains(arrival));
+            }
+            demand(*wire == numbered, || {
+                format!("link {} has {:?} on the wire, its queue says {:?}", link.number, wire, numbered)
             })?;
         }
         Ok(())
@@ -148,6 +155,9 @@ fn take_back_tfp(point: &mut TransferPoint, arrival: u64, destination: u16) {
 fn check_standing(before: &TransferPoint, after: &TransferPoint) -> Check {
     for link in after.links.values() {
         let earlier = before.link(link.number);
+        if link.queue == earlier.queue {
+            continue;
+        }
         let now: BTreeSet<u64> = link.queue.iter().map(|message| message.arrival).collect();
         let stayed: Vec<&Message> = earlier.queue.iter().filter(|m| now.contains(&m.arrival)).collect();
         let beginning: Vec<&Message> = link.queue.iter().take(stayed.len()).collect();

@@ -4,7 +4,9 @@
 pub mod arrangement;
 pub mod breakage;
 pub mod changeover;
+pub mod compare;
 pub mod configuration;
+pub mod corners;
 pub mod count;
 pub mod generate;
 pub mod ledger;

@@ -1,6 +1,7 @@
 //! The transfer point: its tables, its stores, and the rule that gives a link.
 
 use std::collections::BTreeMap;
+use std::rc::Rc;
 
 use crate::wire::{self, Label, Management};
 
@@ -44,7 +45,8 @@ pub struct Message {
     pub arrival: u64,
     /// Made by this point; all else, SI 0 in transit too, is a user message.
     pub management: bool,
-    pub octets: Vec<u8>,
+    /// Shared, since the bookkeeping copies the whole point at every call.
+    pub octets: Rc<[u8]>,
 }
 
 #[derive(Clone, PartialEq, Eq, Debug)]
@@ -367,7 +369,7 @@ impl TransferPoint {
     pub fn number_message(&mut self, management: bool, octets: Vec<u8>) -> Message {
         let arrival = self.next_arrival;
         self.next_arrival += 1;
-        Message { arrival, management, octets }
+        Message { arrival, management, octets: octets.into() }
     }
 
     pub fn queue_management(&mut self, path: u8, dpc: u16, slc: u8, order: Management) {

@@ -105,7 +105,7 @@ impl TransferPoint {
         if link.state != LinkState::Open || none_unsent || link.sent >= WINDOW {
             return Err(Reply::WrongState);
         }
-        let octets = link.queue[link.sent].octets.clone();
+        let octets = link.queue[link.sent].octets.to_vec();
         link.sent += 1;
         let fsn = wire::step_on(link.last_acknowledged, link.sent);
         Ok(Effects { output: Output::Leaves { fsn, octets }, ..Effects::default() })

@@ -1,0 +1,2 @@
+// What a run writes of a call.
+pub mod answer;
