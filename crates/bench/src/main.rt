@@ -1,0 +1,152 @@
+// Moves messages through a node and counts them, to be timed from outside: `bench transit COUNT`, `bench changeover MESSAGES TIMES`,
+// `bench host COUNT`, each with a configuration on standard input.
+mod failing;
+mod handing;
+mod letter;
+mod link;
+mod passage;
+mod show;
+mod work;
+
+use libc::STDERR_FILENO;
+use plan::data::Plan;
+use plan::data::empty_plan;
+use start::start;
+use work::Work;
+
+fn main() {
+    let work = work::asked();
+    if work.times == 0 {
+        io::write_all(
+            STDERR_FILENO,
+            b"bench: say what to do, with a configuration on standard input: bench transit COUNT, bench changeover MESSAGES TIMES or bench host COUNT\n",
+        );
+        return;
+    }
+    start_node(work);
+}
+
+// A node from standard input, and the work on it.
+fn start_node(work: Work) {
+    let mut text = io::large_buffer();
+    let count = io::read_full(libc::STDIN_FILENO, &mut text);
+    let mut links = [0u32; 256];
+    let mut marks = [0u32; 512];
+    let mut spans = [0u16; 70];
+    let mut rings = [0u8; 8960];
+    let mut rows = [0u64; 2048];
+    let mut octets = [0u8; 52416];
+    let mut arrivals = [0u64; 1];
+    let made = start(
+        text::part::between(&text, 0, count),
+        empty_plan(),
+        &mut links,
+        &mut marks,
+        &mut spans,
+        &mut rings,
+        &mut arrivals,
+    );
+    if 0 < made.fault {
+        say_faulty();
+        return;
+    }
+    run(
+        made.plan,
+        &mut links,
+        &mut marks,
+        &mut spans,
+        &mut rings,
+        &mut rows,
+        &mut octets,
+        &mut arrivals,
+        work,
+    );
+}
+
+fn say_faulty() {
+    io::write_all(
+        STDERR_FILENO,
+        b"bench: the configuration on standard input is faulty\n",
+    );
+}
+
+// Four links in service, and then what is asked for.
+fn run(
+    plan: Plan,
+    links: &mut [u32; 256],
+    marks: &mut [u32; 512],
+    spans: &mut [u16; 70],
+    rings: &mut [u8; 8960],
+    rows: &mut [u64; 2048],
+    octets: &mut [u8; 52416],
+    arrivals: &mut [u64; 1],
+    work: Work,
+) {
+    link::bring_in(plan, links, marks, spans, rings, rows, octets, arrivals);
+    if work.kind == 2 {
+        failing::run(
+            plan,
+            links,
+            marks,
+            spans,
+            rings,
+            rows,
+            octets,
+            arrivals,
+            work.messages,
+            work.times,
+        );
+    } else {
+        move_on(
+            plan,
+            links,
+            marks,
+            spans,
+            rings,
+            rows,
+            octets,
+            arrivals,
+            work,
+        );
+    }
+}
+
+// Messages from a link, or from the host.
+fn move_on(
+    plan: Plan,
+    links: &mut [u32; 256],
+    marks: &mut [u32; 512],
+    spans: &mut [u16; 70],
+    rings: &mut [u8; 8960],
+    rows: &mut [u64; 2048],
+    octets: &mut [u8; 52416],
+    arrivals: &mut [u64; 1],
+    work: Work,
+) {
+    let count = work.times;
+    if work.kind == 1 {
+        passage::run(
+            plan,
+            links,
+            marks,
+            spans,
+            rings,
+            rows,
+            octets,
+            arrivals,
+            count,
+        );
+    } else {
+        handing::run(
+            plan,
+            links,
+            marks,
+            spans,
+            rings,
+            rows,
+            octets,
+            arrivals,
+            count,
+        );
+    }
+}
