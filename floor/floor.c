@@ -124,7 +124,7 @@ static void move(unsigned from, unsigned long count, const char *came, const cha
     for (unsigned long i = 0; i < count;) {
         message[4] = (uint8_t)(message[4] % 16 | i % 16 << 4);
         passed += (unsigned)pass(message, letter_size);
-        if (++i % 16 == 0)
+        if (++i % 64 == 0)
             left += empty_all();
     }
     left += empty_all();

@@ -1,15 +1,21 @@
 -- What the chooser says is the way to a point and the link of a destination. Assumes nothing.
 use mathlib.Core.Path.{_≡_, sym, ap, _∙_}
-use mathlib.Core.Bool.{Bool, true, false, cond}
+use mathlib.Core.Bool.{Bool, true, false, cond, and-eq-true-iff}
 use mathlib.Core.List.{List}
 use Prim.Native.Nat.{ℕ}
+use lib.Dec.{ltb}
+use lib.ListN.{replicate}
 use Rattle.plan.specs.declared.data.Plan.{Plan}
-use Rattle.plan.specs.declared.find.Found.{Found}
-use Rattle.plan.specs.Find.{placeOf, isFound}
+use Rattle.plan.specs.declared.data.Route.{Route}
+use Rattle.plan.specs.declared.find.There.{There}
+use Rattle.plan.specs.Data.{noRoute, routesOf}
+use Rattle.plan.specs.Find.{given, placeOf, thereOf}
 use Rattle.routing.specs.declared.state.Need.{Need}
 use Rattle.routing.specs.State.{serves, isMarked}
-use Rattle.routing.specs.Which.{none, chosen}
-use Rattle.access.specs.Way.{forUsers, linkFor, wayOf, currentLink}
+use Rattle.routing.specs.Which.{none, ofSets, linkFrom, chosen}
+use Rattle.routing.proofs.Ranks.{sets-alone}
+use Rattle.access.specs.declared.way.Direction.{Direction}
+use Rattle.access.specs.Way.{forUsers, linkFor, wayOf, directionOf, currentLink}
 
 module _ (plan : Plan) (links marks : List ℕ) (need : Need) where
   -- what it says for what user messages need is the current link
@@ -20,26 +26,43 @@ module _ (plan : Plan) (links marks : List ℕ) (need : Need) where
   link-there destination sls link users chose =
       chose ∙ ap (λ (n : Need). chosen (serves links n) (isMarked marks destination) plan destination sls) users
 
-  module _ (point sls : ℕ) (found : Found)
-      (searched : found ≡ record { given = isFound plan point; place = placeOf plan point }) where
+  module _ (point sls : ℕ) (there : There) (searched : there ≡ thereOf plan point) where
     -- the way is that of the point's place, by what the search says
-    by-search : (said : Bool) → found .given ≡ said
+    by-search : (said : Bool) → there .given ≡ said
         → cond said (linkFor plan links marks need (placeOf plan point) sls) none ≡ wayOf plan links marks need point sls
     unfolding wayOf
     by-search said e =
         ap (λ (t : Bool). cond t (linkFor plan links marks need (placeOf plan point) sls) none)
-        (sym e ∙ ap (λ (f : Found). f .given) searched)
+        (sym e ∙ ap (λ (f : There). f .given) searched)
+
+    -- with the place that it says
+    to : (link : ℕ) → link ≡ wayOf plan links marks need point sls
+        → _≡_ {A = Direction} (record { link = link; place = there .place }) (directionOf plan links marks need point sls)
+    to link e =
+        ap (λ (n : ℕ). record { link = n; place = there .place }) e
+        ∙ ap (λ (f : There). record { link = wayOf plan links marks need point sls; place = f .place }) searched
 
     -- no given destination has the code
-    pub no-way : found .given ≡ false → none ≡ wayOf plan links marks need point sls
-    no-way e = by-search false e
+    pub no-way : there .given ≡ false
+        → _≡_ {A = Direction} (record { link = none; place = there .place }) (directionOf plan links marks need point sls)
+    no-way e = to none (by-search false e)
+
+    -- the routes that come along are those of the point's place
+    routed : there .given ≡ true → there .routes ≡ routesOf plan (placeOf plan point)
+    routed e =
+        let below = and-eq-true-iff (ltb (placeOf plan point) (given plan)) _ .0 (ap (λ (f : There). f .given) (sym searched) ∙ e) .0 in
+        ap (λ (f : There). f .routes) searched
+        ∙ ap (λ (t : Bool). cond t (routesOf plan (placeOf plan point)) (replicate 4 noRoute)) below
 
     -- one has it
-    pub way-there : found .given ≡ true → (link : ℕ)
-        → link ≡ chosen (serves links need) (isMarked marks (found .place)) plan (found .place) sls
-        → link ≡ wayOf plan links marks need point sls
+    pub way-there : there .given ≡ true → (link : ℕ)
+        → link ≡ linkFrom (serves links need) (isMarked marks (there .place)) (ofSets (plan .sets)) sls 0 (there .routes)
+        → _≡_ {A = Direction} (record { link = link; place = there .place }) (directionOf plan links marks need point sls)
     unfolding linkFor
     way-there e link chose =
-        chose
-        ∙ ap (λ (f : Found). chosen (serves links need) (isMarked marks (f .place)) plan (f .place) sls) searched
-        ∙ by-search true e
+        to link
+        (chose
+        ∙ sets-alone (serves links need) (isMarked marks (there .place)) plan sls 0 (there .routes)
+        ∙ ap (λ (routes : List Route). linkFrom (serves links need) (isMarked marks (there .place)) plan sls 0 routes) (routed e)
+        ∙ ap (λ (f : There). linkFrom (serves links need) (isMarked marks (f .place)) plan sls 0 (routesOf plan (placeOf plan point))) searched
+        ∙ by-search true e)

@@ -5,6 +5,7 @@ use mathlib.Core.List.{List}
 use Rattle.plan.specs.declared.data.Plan.{Plan}
 use Rattle.plan.specs.Find.{placeOf, isFound}
 use Rattle.routing.specs.declared.state.Need.{Need}
+use Rattle.access.specs.declared.way.Direction.{Direction}
 use Rattle.routing.specs.State.{serves, isMarked}
 use Rattle.routing.specs.Which.{none, chosen}
 
@@ -24,6 +25,11 @@ linkFor plan links marks need destination sls = chosen (serves links need) (isMa
 unfoldable pub wayOf : Plan → List ℕ → List ℕ → Need → ℕ → ℕ → ℕ
 wayOf plan links marks need point sls =
     cond (isFound plan point) (linkFor plan links marks need (placeOf plan point) sls) none
+
+-- with the place of the point among the destinations
+abbrev pub directionOf : Plan → List ℕ → List ℕ → Need → ℕ → ℕ → Direction
+directionOf plan links marks need point sls =
+    record { link = wayOf plan links marks need point sls; place = placeOf plan point }
 
 -- the current link of a pair (destination, SLS)
 abbrev pub currentLink : Plan → List ℕ → List ℕ → ℕ → ℕ → ℕ

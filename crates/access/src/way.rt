@@ -1,7 +1,8 @@
 // The way of a message to a point: the link that the rule gives it.
 use plan::data::Plan;
-use plan::find::find;
+use plan::find::seek;
 use routing::choose::choose;
+use routing::choose::choose_by;
 use routing::state::Need;
 ghost use mathlib.Core.Path.{_≡_};
 ghost use Rattle.access.specs.Way as Way;
@@ -23,6 +24,34 @@ pub fn for_management(never: u8) -> Need
     Need { open: true, never }
 }
 
+// The link to a point, 32 where there is none, and the place of that point among the destinations.
+pub struct Direction {
+    pub link: u8,
+    pub place: usize,
+}
+
+// Both for an SLS, by one search.
+pub fn directed(
+    plan: Plan,
+    links: &[u32; 256],
+    marks: &[u32; 512],
+    need: Need,
+    point: u16,
+    sls: u8,
+) -> Direction
+    ensures { λ r. ⌜ r ≡ Way.directionOf plan (now (links .entry)) (now (marks .entry)) need point sls ⌝ }
+{
+    let there = seek(plan, point);
+    let place = there.place;
+    if !there.given {
+        return Direction { link: 32, place };
+    }
+    let routes = there.routes;
+    let sets = plan.sets;
+    let link = choose_by(sets, routes, links, marks, need, place, sls);
+    Direction { link, place }
+}
+
 // The link to a point for an SLS, 32 where there is none.
 pub fn way(
     plan: Plan,
@@ -34,11 +63,8 @@ pub fn way(
 ) -> u8
     ensures { λ r. ⌜ r ≡ Way.wayOf plan (now (links .entry)) (now (marks .entry)) need point sls ⌝ }
 {
-    let found = find(plan, point);
-    if !found.given {
-        return 32;
-    }
-    choose(plan, links, marks, need, found.place, sls)
+    let to = directed(plan, links, marks, need, point, sls);
+    to.link
 }
 
 // The link of a destination for an SLS, as user messages need it, 32 where there is none.

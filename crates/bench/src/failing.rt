@@ -1,16 +1,18 @@
 // Link 1 fails with messages sent and unacknowledged; the COA moves them all to another link, where they leave.
+use crate::handing::hand_over;
+use crate::letter::Round;
 use crate::letter::letter;
+use crate::letter::neighbour;
 use crate::link::empty_all;
 use crate::link::open;
+use crate::link::send_all;
 use crate::show::show;
+use crate::taking::take_in;
 use changeover::fail::fail;
 use network::management::Message;
 use network::management::write_message;
-use passing::host::send_host;
 use plan::data::Plan;
-use receiving::receive;
 use rows::link::load_link;
-use sending::send::send;
 use wire::header::Label;
 
 pub fn run(
@@ -26,9 +28,8 @@ pub fn run(
     times: u64,
 ) {
     let mut moved = 0;
-    let mut round = 0;
-    while round < times {
-        let fsn = (round % 128) as u8;
+    let mut time = 0;
+    while time < times {
         let left = fail_once(
             plan,
             links,
@@ -39,12 +40,12 @@ pub fn run(
             octets,
             arrivals,
             messages,
-            fsn,
+            time,
         );
         moved = std::num::wrapping_add_u64(moved, left);
-        round += 1;
+        time += 1;
     }
-    show(b"changeovers", round);
+    show(b"changeovers", time);
     show(b"messages each", messages);
     show(b"sent again and acknowledged, with the COO", moved);
 }
@@ -60,7 +61,7 @@ fn fail_once(
     octets: &mut [u8; 52416],
     arrivals: &mut [u64; 1],
     messages: u64,
-    fsn: u8,
+    time: u64,
 ) -> u64 {
     fill(
         plan,
@@ -83,7 +84,7 @@ fn fail_once(
         rows,
         octets,
         arrivals,
-        fsn,
+        time,
     );
     let left = empty_all(plan, links, spans, rings, rows, octets);
     open(plan, links, marks, spans, rings, rows, octets, arrivals, 1);
@@ -102,40 +103,13 @@ fn fill(
     arrivals: &mut [u64; 1],
     messages: u64,
 ) {
-    let message = letter(plan, plan.code);
-    let mut out = [0u8; 273];
-    let mut i = 0;
-    while i < messages {
-        put_out(
-            plan,
-            links,
-            marks,
-            spans,
-            rings,
-            rows,
-            octets,
-            arrivals,
-            &message,
-            &mut out,
-        );
-        i += 1;
-    }
-}
-
-// One message queued on link 1, and sent.
-fn put_out(
-    plan: Plan,
-    links: &mut [u32; 256],
-    marks: &mut [u32; 512],
-    spans: &mut [u16; 70],
-    rings: &mut [u8; 8960],
-    rows: &mut [u64; 2048],
-    octets: &mut [u8; 52416],
-    arrivals: &mut [u64; 1],
-    message: &[u8; 40],
-    out: &mut [u8; 273],
-) {
-    send_host(
+    let mut message = letter(plan, plan.code);
+    let round = Round {
+        first: 0,
+        many: messages,
+        spread: false,
+    };
+    hand_over(
         plan,
         links,
         marks,
@@ -144,9 +118,11 @@ fn put_out(
         rows,
         octets,
         arrivals,
-        message,
+        round,
+        &mut message,
     );
-    send(plan, links, spans, rings, rows, octets, 1, out);
+    let mut out = [0u8; 273];
+    send_all(plan, links, spans, rings, rows, octets, 1, &mut out);
 }
 
 fn fail_link(
@@ -182,12 +158,17 @@ fn take_answer(
     rows: &mut [u64; 2048],
     octets: &mut [u8; 52416],
     arrivals: &mut [u64; 1],
-    fsn: u8,
+    time: u64,
 ) {
     let mut reports = [0u64; 1024];
     let mut order = [0u8; 273];
-    let count = write_answer(plan, links, &mut order);
-    receive(
+    let length = write_answer(plan, links, &mut order);
+    let round = Round {
+        first: time,
+        many: 1,
+        spread: false,
+    };
+    take_in(
         plan,
         links,
         marks,
@@ -197,19 +178,18 @@ fn take_answer(
         octets,
         arrivals,
         2,
-        fsn,
-        text::part::between(&order, 0, count),
+        round,
+        &mut order,
+        length,
         &mut reports,
     );
 }
 
 // The COA for link 1, from the neighbour behind its set.
 fn write_answer(plan: Plan, links: &[u32; 256], order: &mut [u8]) -> usize {
-    let sets = plan.sets;
-    let neighbour = sets[1];
     let label = Label {
         dpc: plan.code,
-        opc: neighbour.adjacent,
+        opc: neighbour(plan, 1),
         sls: 0,
     };
     let known = load_link(links, 1);

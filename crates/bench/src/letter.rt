@@ -1,4 +1,4 @@
-// The messages that are moved: 40 octets, from one point to another.
+// The messages that are moved: the first 40 octets of an area, from one point to another.
 use plan::data::Plan;
 
 // The destination behind all others of the plan.
@@ -16,8 +16,8 @@ pub fn destination(plan: Plan) -> u16 {
 }
 
 // A message with SLS 0.
-pub fn letter(plan: Plan, opc: u16) -> [u8; 40] {
-    let mut octets = [90u8; 40];
+pub fn letter(plan: Plan, opc: u16) -> [u8; 273] {
+    let mut octets = [90u8; 273];
     let word = destination(plan) as u32 + 16384 * (opc as u32 % 16384);
     octets[0] = plan.ni % 4 * 64 + 5;
     octets[1] = (word % 256) as u8;
@@ -27,16 +27,27 @@ pub fn letter(plan: Plan, opc: u16) -> [u8; 40] {
     octets
 }
 
-// The octet that holds the SLS, with another one.
-pub fn with_sls(octet: u8, sls: u64) -> u8 {
-    octet % 16 + 16 * ((sls % 16) as u8)
+// Messages in turn: the number of the first, how many, and whether they go round all SLS or have SLS 0.
+pub struct Round {
+    pub first: u64,
+    pub many: u64,
+    pub spread: bool,
 }
 
-// The neighbour behind set 0.
-pub fn neighbour(plan: Plan) -> u16 {
+// The octet that holds the SLS, with that of a message by its number.
+pub fn with_sls(octet: u8, number: u64, spread: bool) -> u8 {
+    if spread {
+        octet % 16 + 16 * ((number % 16) as u8)
+    } else {
+        octet % 16
+    }
+}
+
+// The neighbour behind set 0 or 1.
+pub fn neighbour(plan: Plan, set: usize) -> u16 {
     let sets = plan.sets;
-    let first = sets[0];
-    first.adjacent
+    let those = sets[set % 8];
+    those.adjacent
 }
 
 // One more where the reply is 0.

@@ -64,6 +64,36 @@ pub fn open(
     empty_all(plan, links, spans, rings, rows, octets);
 }
 
+// What left a link: how many messages, and the number of the last.
+pub struct Gone {
+    pub many: u64,
+    pub last: u8,
+}
+
+// All messages of a link are sent.
+pub fn send_all(
+    plan: Plan,
+    links: &mut [u32; 256],
+    spans: &[u16; 70],
+    rings: &[u8; 8960],
+    rows: &[u64; 2048],
+    octets: &[u8; 52416],
+    link: u8,
+    out: &mut [u8; 273],
+) -> Gone {
+    let mut many = 0;
+    let mut last = 0;
+    while many < 127 {
+        let answer = send(plan, links, spans, rings, rows, octets, link, out);
+        if answer.reply != 0 {
+            break;
+        }
+        many += 1;
+        last = answer.fsn;
+    }
+    Gone { many, last }
+}
+
 // All messages of a link are sent, and acknowledged; how many.
 fn empty(
     plan: Plan,
@@ -75,34 +105,11 @@ fn empty(
     link: u8,
 ) -> u64 {
     let mut out = [0u8; 273];
-    let mut left = 0;
-    let mut last = 0;
-    while left < 127 {
-        let answer = send_one(plan, links, spans, rings, rows, octets, link, &mut out);
-        if answer.reply != 0 {
-            break;
-        }
-        left += 1;
-        last = answer.fsn;
+    let gone = send_all(plan, links, spans, rings, rows, octets, link, &mut out);
+    if 0 < gone.many {
+        acknowledge(plan, links, spans, rings, link, gone.last);
     }
-    if 0 < left {
-        acknowledge(plan, links, spans, rings, link, last);
-    }
-    left
-}
-
-// The next message of a link is sent.
-fn send_one(
-    plan: Plan,
-    links: &mut [u32; 256],
-    spans: &[u16; 70],
-    rings: &[u8; 8960],
-    rows: &[u64; 2048],
-    octets: &[u8; 52416],
-    link: u8,
-    out: &mut [u8; 273],
-) -> Answer {
-    send(plan, links, spans, rings, rows, octets, link, out)
+    gone.many
 }
 
 // The same of links 1 to 3.

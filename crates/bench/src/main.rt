@@ -6,6 +6,7 @@ mod letter;
 mod link;
 mod passage;
 mod show;
+mod taking;
 mod work;
 
 use libc::STDERR_FILENO;
@@ -97,34 +98,6 @@ fn run(
             work.times,
         );
     } else {
-        move_on(
-            plan,
-            links,
-            marks,
-            spans,
-            rings,
-            rows,
-            octets,
-            arrivals,
-            work,
-        );
-    }
-}
-
-// Messages from a link, or from the host.
-fn move_on(
-    plan: Plan,
-    links: &mut [u32; 256],
-    marks: &mut [u32; 512],
-    spans: &mut [u16; 70],
-    rings: &mut [u8; 8960],
-    rows: &mut [u64; 2048],
-    octets: &mut [u8; 52416],
-    arrivals: &mut [u64; 1],
-    work: Work,
-) {
-    let count = work.times;
-    if work.kind == 1 {
         passage::run(
             plan,
             links,
@@ -134,19 +107,8 @@ fn move_on(
             rows,
             octets,
             arrivals,
-            count,
-        );
-    } else {
-        handing::run(
-            plan,
-            links,
-            marks,
-            spans,
-            rings,
-            rows,
-            octets,
-            arrivals,
-            count,
+            work.kind == 3,
+            work.times,
         );
     }
 }

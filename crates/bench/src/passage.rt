@@ -1,12 +1,12 @@
-// Messages received on link 0, passed on to links 1 to 3, sent and acknowledged there.
-use crate::letter::counted;
+// Messages received on link 0 or handed over by the host, queued on links 1 to 3, sent and acknowledged there.
+use crate::handing::hand_over;
+use crate::letter::Round;
 use crate::letter::letter;
 use crate::letter::neighbour;
-use crate::letter::with_sls;
 use crate::link::empty_all;
 use crate::show::show;
+use crate::taking::take_in;
 use plan::data::Plan;
-use receiving::receive;
 
 pub fn run(
     plan: Plan,
@@ -17,15 +17,22 @@ pub fn run(
     rows: &mut [u64; 2048],
     octets: &mut [u8; 52416],
     arrivals: &mut [u64; 1],
+    host: bool,
     count: u64,
 ) {
+    let mut message = letter(plan, origin(plan, host));
     let mut reports = [0u64; 1024];
     let mut rest = count;
-    let mut passed = 0;
+    let mut queued = 0;
     let mut left = 0;
     while 0 < rest {
-        let many = if rest < 16 { rest } else { 16 };
-        let more = take_in(
+        let many = if rest < 64 { rest } else { 64 };
+        let round = Round {
+            first: count - rest,
+            many,
+            spread: true,
+        };
+        let more = come(
             plan,
             links,
             marks,
@@ -34,22 +41,26 @@ pub fn run(
             rows,
             octets,
             arrivals,
-            count - rest,
-            many,
+            host,
+            round,
+            &mut message,
             &mut reports,
         );
         let gone = empty_all(plan, links, spans, rings, rows, octets);
-        passed = std::num::wrapping_add_u64(passed, more);
+        queued = std::num::wrapping_add_u64(queued, more);
         left = std::num::wrapping_add_u64(left, gone);
         rest -= many;
     }
-    show(b"received", count);
-    show(b"passed on", passed);
-    show(b"sent and acknowledged", left);
+    tell(host, count, queued, left);
 }
 
-// So many messages come in, numbered from the first on; how many are passed on.
-fn take_in(
+// Where the messages are from: the neighbour behind set 0, or this node.
+fn origin(plan: Plan, host: bool) -> u16 {
+    if host { plan.code } else { neighbour(plan, 0) }
+}
+
+// So many messages come; how many are queued.
+fn come(
     plan: Plan,
     links: &mut [u32; 256],
     marks: &mut [u32; 512],
@@ -58,16 +69,13 @@ fn take_in(
     rows: &mut [u64; 2048],
     octets: &mut [u8; 52416],
     arrivals: &mut [u64; 1],
-    first: u64,
-    many: u64,
+    host: bool,
+    round: Round,
+    message: &mut [u8; 273],
     reports: &mut [u64; 1024],
 ) -> u64 {
-    let mut message = letter(plan, neighbour(plan));
-    let mut passed = 0;
-    let mut i = 0;
-    while i < many {
-        let number = std::num::wrapping_add_u64(first, i);
-        let reply = take_one(
+    if host {
+        hand_over(
             plan,
             links,
             marks,
@@ -76,44 +84,35 @@ fn take_in(
             rows,
             octets,
             arrivals,
-            number,
-            &mut message,
+            round,
+            message,
+        )
+    } else {
+        take_in(
+            plan,
+            links,
+            marks,
+            spans,
+            rings,
+            rows,
+            octets,
+            arrivals,
+            0,
+            round,
+            message,
+            40,
             reports,
-        );
-        passed = counted(passed, reply);
-        i += 1;
+        )
     }
-    passed
 }
 
-// One message comes in; the reply.
-fn take_one(
-    plan: Plan,
-    links: &mut [u32; 256],
-    marks: &mut [u32; 512],
-    spans: &mut [u16; 70],
-    rings: &mut [u8; 8960],
-    rows: &mut [u64; 2048],
-    octets: &mut [u8; 52416],
-    arrivals: &mut [u64; 1],
-    number: u64,
-    message: &mut [u8; 40],
-    reports: &mut [u64; 1024],
-) -> u8 {
-    message[4] = with_sls(message[4], number);
-    let answer = receive(
-        plan,
-        links,
-        marks,
-        spans,
-        rings,
-        rows,
-        octets,
-        arrivals,
-        0,
-        (number % 128) as u8,
-        message,
-        reports,
-    );
-    answer.reply
+fn tell(host: bool, count: u64, queued: u64, left: u64) {
+    if host {
+        show(b"handed over", count);
+        show(b"queued", queued);
+    } else {
+        show(b"received", count);
+        show(b"passed on", queued);
+    }
+    show(b"sent and acknowledged", left);
 }

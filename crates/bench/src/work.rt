@@ -18,7 +18,7 @@ pub fn asked() -> Work {
     if kind == 2 && count == 4 {
         return Work {
             kind,
-            messages: number(2, 127),
+            messages: number(2, 126),
             times: number(3, 1000000000),
         };
     }

@@ -61,7 +61,8 @@ pub fn rank_by(plan: Plan, destination: usize, set: u8) -> usize
     if 64 <= destination {
         return 4;
     }
-    let there = plan.destinations[destination];
+    let destinations = plan.destinations;
+    let there = destinations[destination];
     let routes = there.routes;
     rank_among(routes, set)
 }
@@ -91,7 +92,8 @@ pub fn is_link(plan: Plan, link: u8) -> bool
     if 32 <= link {
         return false;
     }
-    let there = plan.links[link as usize];
+    let links = plan.links;
+    let there = links[link as usize];
     there.given
 }
 
@@ -105,7 +107,8 @@ pub fn is_set(plan: Plan, set: u8) -> bool
     if 8 <= set {
         return false;
     }
-    let there = plan.sets[set as usize];
+    let sets = plan.sets;
+    let there = sets[set as usize];
     there.given
 }
 
@@ -116,7 +119,8 @@ pub fn set_of(plan: Plan, link: u8) -> u8
     if 32 <= link {
         return 8;
     }
-    let there = plan.links[link as usize];
+    let links = plan.links;
+    let there = links[link as usize];
     there.set
 }
 
@@ -127,7 +131,8 @@ pub fn slc_of(plan: Plan, link: u8) -> u8
     if 32 <= link {
         return 0;
     }
-    let there = plan.links[link as usize];
+    let links = plan.links;
+    let there = links[link as usize];
     there.slc
 }
 
@@ -139,6 +144,7 @@ pub fn adjacent_of(plan: Plan, link: u8) -> u16
     if 8 <= set {
         return 0;
     }
-    let those = plan.sets[set as usize];
+    let sets = plan.sets;
+    let those = sets[set as usize];
     those.adjacent
 }

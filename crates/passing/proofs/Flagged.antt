@@ -11,7 +11,10 @@ use Rattle.rows.specs.Rows.{flagAt, withFlag}
 use Rattle.wire.specs.declared.header.Label.{Label}
 use Rattle.moving.specs.Move.{apart}
 use Rattle.current.specs.Flags.{t6, t8}
-use Rattle.passing.specs.Pass.{ringBy, tells, withT8}
+use Rattle.routing.specs.declared.state.Need.{Need}
+use Rattle.access.specs.declared.way.Direction.{Direction}
+use Rattle.access.specs.Way.{directionOf}
+use Rattle.passing.specs.Pass.{ringBy, ringAt, tells, withT8}
 
 -- a destination was looked for by its code
 module _ (plan : Plan) (marks : List ℕ) (code : ℕ) (found : Found) (is : found ≡ record { given = isFound plan code; place = placeOf plan code }) where
@@ -38,11 +41,10 @@ module _ (plan : Plan) (marks : List ℕ) (code : ℕ) (found : Found) (is : fou
   unfolding withT8
   t8-started after set = set ∙ ap (λ (f : Found). withFlag marks (f .place) t8 true) is
 
--- the ring by T6, as it was read
-pub ring-is : (plan : Plan) (marks : List ℕ) (label : Label) (link : ℕ) (found : Found)
-    → found ≡ record { given = isFound plan (label .dpc); place = placeOf plan (label .dpc) }
-    → (on : Bool) → on ≡ flagAt marks (found .place) t6
-    → (said : Bool) → on ≡ said → cond said apart link ≡ ringBy plan marks label link
+-- the ring by T6 of the destination that the direction says
+pub ring-there : (plan : Plan) (links marks : List ℕ) (need : Need) (label : Label) (to : Direction)
+    → to ≡ directionOf plan links marks need (label .dpc) (label .sls)
+    → (ring : ℕ) → ring ≡ ringAt marks to → ring ≡ ringBy plan marks label (to .link)
 unfolding ringBy
-ring-is plan marks label link found is on read said e =
-    ap (λ (t : Bool). cond t apart link) (sym e ∙ flag-is plan marks (label .dpc) found is t6 on read)
+ring-there plan links marks need label to is ring says =
+    says ∙ ap (λ (d : Direction). cond (flagAt marks (d .place) t6) apart (to .link)) is

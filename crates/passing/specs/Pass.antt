@@ -11,6 +11,7 @@ use Rattle.replies.specs.Reply.{plain, done}
 use Rattle.replies.specs.Areas.{Areas, areas, Outcome, outcome, judged, withMarks}
 use Rattle.routing.specs.Which.{none}
 use Rattle.lookup.specs.Lookup.{adjacentOf}
+use Rattle.access.specs.declared.way.Direction.{Direction}
 use Rattle.access.specs.Way.{forUsers, wayOf}
 use Rattle.queueing.specs.Head.{both}
 use Rattle.queueing.specs.Queue.{userReply, userQueues, userRow, userOctets, userArrivals}
@@ -31,6 +32,10 @@ unreachable plan a label = not (ltb (linkOf plan a label) none)
 -- "X's new user messages are held apart" while T6 runs
 unfoldable pub ringBy : Plan → List ℕ → Label → ℕ → ℕ
 ringBy plan marks label link = cond (flagAt marks (placeOf plan (label .dpc)) t6) apart link
+
+-- the same of a message whose direction is given
+abbrev pub ringAt : List ℕ → Direction → ℕ
+ringAt marks to = cond (flagAt marks (to .place) t6) apart (to .link)
 
 abbrev pub ringOf : Plan → Areas → Label → ℕ
 ringOf plan a label = ringBy plan (a .marks) label (linkOf plan a label)

@@ -1,7 +1,7 @@
 // A message from the host.
 use crate::pass::ring_of;
+use access::way::directed;
 use access::way::for_users;
-use access::way::way;
 use discrimination::Came;
 use discrimination::from_host;
 use plan::data::Plan;
@@ -34,11 +34,11 @@ fn offer(
     if label.dpc == plan.code {
         return plain(9);
     }
-    let link = way(plan, links, marks, for_users(), label.dpc, label.sls);
-    if 32 <= link {
+    let to = directed(plan, links, marks, for_users(), label.dpc, label.sls);
+    if 32 <= to.link {
         return plain(9);
     }
-    let ring = ring_of(plan, marks, label, link);
+    let ring = ring_of(marks, to);
     plain(queue_user(
         spans,
         rings,

@@ -1,6 +1,7 @@
 // A message for another point.
+use access::way::Direction;
+use access::way::directed;
 use access::way::for_users;
-use access::way::way;
 use lookup::adjacent_of;
 use making::Draft;
 use making::make;
@@ -19,15 +20,14 @@ ghost use lib.ListN.{length};
 ghost use Rattle.replies.specs.Areas.{areas, Leaves};
 ghost use Rattle.passing.specs.Pass as Pass;
 
-// The ring of a message whose current link is given: that link's, or that of the messages held apart.
-pub fn ring_of(plan: Plan, marks: &[u32; 512], label: Label, link: u8) -> u8
-    ensures { λ r. ⌜ r ≡ Pass.ringBy plan (now (marks .entry)) label link ⌝ }
+// The ring of a message whose direction is given: its link's, or that of the messages held apart.
+pub fn ring_of(marks: &[u32; 512], to: Direction) -> u8
+    ensures { λ r. ⌜ r ≡ Pass.ringAt (now (marks .entry)) to ⌝ }
 {
-    let found = find(plan, label.dpc);
-    if flag(marks, found.place, 4) {
+    if flag(marks, to.place, 4) {
         32
     } else {
-        link
+        to.link
     }
 }
 
@@ -115,8 +115,8 @@ pub fn pass_on(
     ensures { λ r. ⌜ Leaves (Pass.passed plan arriving fsn label (length (now (message .entry))) (areas (now (links .entry)) (now (marks .entry)) (now (spans .entry)) (now (rings .entry)) (now (rows .entry)) (now (arrivals .entry)) (now (reports .entry)))) r (areas (now (links .exit)) (now (marks .exit)) (now (spans .exit)) (now (rings .exit)) (now (rows .exit)) (now (arrivals .exit)) (now (reports .entry))) ⌝ }
     ensures { λ r. ⌜ now (octets .exit) ≡ Pass.octetsPassed plan label (areas (now (links .entry)) (now (marks .entry)) (now (spans .entry)) (now (rings .entry)) (now (rows .entry)) (now (arrivals .entry)) (now (reports .entry))) (now (octets .entry)) (now (message .entry)) ⌝ }
 {
-    let link = way(plan, links, marks, for_users(), label.dpc, label.sls);
-    if 32 <= link {
+    let to = directed(plan, links, marks, for_users(), label.dpc, label.sls);
+    if 32 <= to.link {
         return not_reached(
             plan,
             links,
@@ -131,7 +131,7 @@ pub fn pass_on(
             reports,
         );
     }
-    let ring = ring_of(plan, marks, label, link);
+    let ring = ring_of(marks, to);
     let reply = queue_user(
         spans,
         rings,

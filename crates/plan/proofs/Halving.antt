@@ -2,18 +2,24 @@
 use mathlib.Core.Path.{_≡_, refl, sym, ap, _∙_}
 use mathlib.Core.Bool.{true, false, and-eq-true-iff}
 use mathlib.Core.List.{List}
-use Prim.Native.Nat.{ℕ, zero, suc, _+_, _-_, _/_, _≤_, _<_}
+use Prim.Native.Nat.{ℕ, zero, suc, _+_, _-_, _*_, _/_, _^_, _≤_, _<_}
+use native.Mathlib.Nat.{pow-suc}
+use lib.ListN.{replicate}
 use native.Mathlib.Omega.{arith}
 use lib.Dec.{eqb, ltb}
 use borrow.Author.Tests.{lt-ltb, le-ltb, ltb-true}
 use Rattle.plan.specs.declared.data.Plan.{Plan}
 use Rattle.plan.specs.declared.data.Destination.{Destination}
 use Rattle.plan.specs.declared.find.Found.{Found}
-use Rattle.plan.specs.Find.{codeAt, halved, given, placeOf, isFound}
+use Rattle.plan.specs.declared.find.There.{There}
+use Rattle.plan.specs.Data.{noRoute, routesOf}
+use Rattle.plan.specs.Find.{codeAt, halved, given, placeOf, isFound, thereOf}
 
--- so many turns are left between two places, and they lead where all seven do
-pub record Halving (destinations : List Destination) (code count low high turns : ℕ) : Type 0 where
+-- some halvings are left between two places, enough for them, and they lead where all seven do
+pub record Halving (destinations : List Destination) (code count low high : ℕ) : Type 0 where
   pub within : high ≤ count
+  pub turns : ℕ
+  pub enough : high - low < 2 ^ turns
   pub left : halved destinations code turns low high ≡ halved destinations code 7 0 count
 
 module _ (destinations : List Destination) (code : ℕ) where
@@ -33,50 +39,50 @@ module _ (destinations : List Destination) (code : ℕ) where
   unfolding halved
   halved-down turns low high h k = simp (lt-ltb low high h, le-ltb (codeAt destinations (low + (high - low) / 2)) code k)
 
-  module _ (count low high turns : ℕ) (so-far : Halving destinations code count low high turns) where
-    pub halve-up : 0 < turns → low < high → codeAt destinations (low + (high - low) / 2) < code
-        → Halving destinations code count (low + (high - low) / 2 + 1) high (turns - 1)
-    halve-up some h k =
-        let one-more : suc (turns - 1) ≡ turns = omega arith in
-        record {
-          within = so-far .within;
-          left = sym (halved-up (turns - 1) low high h k) ∙ ap (λ (n : ℕ). halved destinations code n low high) one-more ∙ so-far .left;
-        }
+  pub halve-first : (count : ℕ) → count ≤ 64 → Halving destinations code count 0 count
+  halve-first count h = record { within = omega arith; turns = 7; enough = omega arith; left = refl }
 
-    pub halve-down : 0 < turns → low < high → code ≤ codeAt destinations (low + (high - low) / 2)
-        → Halving destinations code count low (low + (high - low) / 2) (turns - 1)
-    halve-down some h k =
-        let one-more : suc (turns - 1) ≡ turns = omega arith in
-        record {
-          within = omega (arith, so-far .within);
-          left = sym (halved-down (turns - 1) low high h k) ∙ ap (λ (n : ℕ). halved destinations code n low high) one-more ∙ so-far .left;
-        }
+  module _ (count low high : ℕ) where
+    up : (turns : ℕ) → high ≤ count → high - low < 2 ^ turns → halved destinations code turns low high ≡ halved destinations code 7 0 count
+        → low < high → codeAt destinations (low + (high - low) / 2) < code
+        → Halving destinations code count (low + (high - low) / 2 + 1) high
+    up zero within enough left h k = absurd (omega arith)
+    up (suc turns) within enough left h k =
+        let twice : high - low < 2 ^ turns * 2 = rw pow-suc at enough in
+        record { within = within; turns = turns; enough = omega arith; left = sym (halved-up turns low high h k) ∙ left }
 
-    pub halve-met : high ≤ low → Halving destinations code count low high (turns - 1)
-    halve-met h =
-        record {
-          within = so-far .within;
-          left = halved-met (turns - 1) low high h ∙ sym (halved-met turns low high h) ∙ so-far .left;
-        }
+    down : (turns : ℕ) → high ≤ count → high - low < 2 ^ turns → halved destinations code turns low high ≡ halved destinations code 7 0 count
+        → low < high → code ≤ codeAt destinations (low + (high - low) / 2)
+        → Halving destinations code count low (low + (high - low) / 2)
+    down zero within enough left h k = absurd (omega arith)
+    down (suc turns) within enough left h k =
+        let twice : high - low < 2 ^ turns * 2 = rw pow-suc at enough in
+        record { within = omega arith; turns = turns; enough = omega arith; left = sym (halved-down turns low high h k) ∙ left }
 
-    pub halve-last : turns ≤ 0 → low ≡ halved destinations code 7 0 count
-    unfolding halved
-    halve-last none =
-        let no-more : turns ≡ 0 = omega arith in
-        ap (λ (n : ℕ). halved destinations code n low high) (sym no-more) ∙ so-far .left
+    module _ (so-far : Halving destinations code count low high) where
+      pub halve-up : low < high → codeAt destinations (low + (high - low) / 2) < code
+          → Halving destinations code count (low + (high - low) / 2 + 1) high
+      halve-up h k = up (so-far .turns) (so-far .within) (so-far .enough) (so-far .left) h k
+
+      pub halve-down : low < high → code ≤ codeAt destinations (low + (high - low) / 2)
+          → Halving destinations code count low (low + (high - low) / 2)
+      halve-down h k = down (so-far .turns) (so-far .within) (so-far .enough) (so-far .left) h k
+
+      pub halve-last : high ≤ low → low ≡ halved destinations code 7 0 count
+      halve-last h = sym (halved-met (so-far .turns) low high h) ∙ so-far .left
 
 module _ (plan : Plan) (code low count : ℕ) (all : count ≡ given plan) (found : low ≡ halved (plan .destinations) code 7 0 count) where
   place : low ≡ placeOf plan code
   place = found ∙ ap (halved (plan .destinations) code 7 0) all
 
   pub stands-there : low < count
-      → _≡_ {A = Found}
-      (record { given = eqb (codeAt (plan .destinations) low) code; place = low })
-      (record { given = isFound plan code; place = placeOf plan code })
+      → _≡_ {A = There}
+      (record { given = eqb (codeAt (plan .destinations) low) code; place = low; routes = routesOf plan low })
+      (thereOf plan code)
   stands-there h = simp (← place, lt-ltb low (given plan) (omega arith))
 
   pub stands-nowhere : count ≤ low
-      → _≡_ {A = Found} (record { given = false; place = low }) (record { given = isFound plan code; place = placeOf plan code })
+      → _≡_ {A = There} (record { given = false; place = low; routes = replicate 4 noRoute }) (thereOf plan code)
   stands-nowhere h = simp (← place, le-ltb low (given plan) (omega arith))
 
 -- a destination that is found stands in the table

@@ -2,11 +2,12 @@
 use Prim.Native.Nat.{ℕ, zero, suc, _+_, _-_, _/_, min}
 use mathlib.Core.Bool.{Bool, cond, _&&_}
 use mathlib.Core.List.{List}
-use lib.ListN.{getD}
+use lib.ListN.{getD, replicate}
 use lib.Dec.{ltb, eqb}
 use Rattle.plan.specs.declared.data.Plan.{Plan}
 use Rattle.plan.specs.declared.data.Destination.{Destination}
-use Rattle.plan.specs.Data.{noDestination}
+use Rattle.plan.specs.declared.find.There.{There}
+use Rattle.plan.specs.Data.{noDestination, noRoute, routesOf}
 
 -- the code of the destination at a place
 abbrev pub codeAt : List Destination → ℕ → ℕ
@@ -34,3 +35,12 @@ placeOf plan code = halved (plan .destinations) code 7 0 (given plan)
 -- whether a given destination has the code
 abbrev pub isFound : Plan → ℕ → Bool
 isFound plan code = ltb (placeOf plan code) (given plan) && eqb (codeAt (plan .destinations) (placeOf plan code)) code
+
+-- both, with the routes of the destination that is given there
+abbrev pub thereOf : Plan → ℕ → There
+thereOf plan code =
+    record {
+      given = isFound plan code;
+      place = placeOf plan code;
+      routes = cond (ltb (placeOf plan code) (given plan)) (routesOf plan (placeOf plan code)) (replicate 4 noRoute);
+    }

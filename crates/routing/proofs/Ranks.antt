@@ -1,7 +1,7 @@
 -- Facts on the walk over ranks: what a route that is passed over or taken says of the link. Assumes nothing.
 use mathlib.Core.Path.{_≡_, refl, sym, ap, _∙_}
 use mathlib.Core.Bool.{Bool, true, false, cond, not, _&&_, false≢true}
-use mathlib.Core.List.{List, []}
+use mathlib.Core.List.{List, [], _∷_}
 use Prim.Native.Nat.{ℕ, _+_, _≤_, _<_}
 use native.Mathlib.Numerals.{add-one}
 use lib.Dec.{ltb}
@@ -13,7 +13,7 @@ use Rattle.plan.specs.declared.data.Destination.{Destination}
 use Rattle.plan.specs.declared.data.Plan.{Plan}
 use Rattle.plan.specs.declared.data.Route.{Route}
 use Rattle.plan.specs.Data.{noRoute, linksOf}
-use Rattle.routing.specs.Which.{none, Proper, inTurn, someServes, linkFor, usable, linkFrom, chosen}
+use Rattle.routing.specs.Which.{none, Proper, ofSets, inTurn, someServes, linkFor, usable, linkFrom, chosen}
 use Rattle.routing.proofs.Serving.{some-round, serving-exactly}
 
 -- a route that isn't usable stays so where its set doesn't come to serve, and a usable one where its set still does
@@ -51,6 +51,16 @@ module _ (serves marked : ℕ → Bool) (plan : Plan) where
       (ap
       (λ (there : Destination). linkFrom serves marked plan sls 0 (there .routes))
       (List·getD-eq-default (plan .destinations) nowhere {n = destination} past))
+
+  -- of the plan only the sets count
+  pub sets-alone : (sls rank : ℕ) (routes : List Route)
+      → linkFrom serves marked (ofSets (plan .sets)) sls rank routes ≡ linkFrom serves marked plan sls rank routes
+  unfolding linkFrom
+  sets-alone sls rank [] = refl
+  sets-alone sls rank (route ∷ worse) =
+      ap
+      (cond (usable serves marked plan rank route) (linkFor serves (linksOf plan (route .set)) sls))
+      (sets-alone sls (rank + 1) worse)
 
   -- a route is usable exactly if one of the links that it has to go round serves
   pub usable-turn : (rank : ℕ) (route : Route)

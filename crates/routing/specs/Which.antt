@@ -5,6 +5,7 @@ use mathlib.Core.List.{List, [], _∷_, _++_}
 use Prim.Native.Nat.{ℕ, _+_, _%_, _<_}
 use lib.ListN.{length, take, drop}
 use Rattle.plan.specs.declared.data.Plan.{Plan}
+use Rattle.plan.specs.declared.data.LinkSet.{LinkSet}
 use Rattle.plan.specs.declared.data.Route.{Route}
 use Rattle.plan.specs.Data.{linksOf, routesOf}
 
@@ -15,6 +16,10 @@ none = 32
 -- a test that only links, 0 to 31, pass
 abbrev pub Proper : (ℕ → Bool) → Type 0
 Proper serves = (link : ℕ) → serves link ≡ true → link < none
+
+-- a plan of which only the sets are asked for
+abbrev pub ofSets : List LinkSet → Plan
+ofSets sets = record { given = false; code = 0; ni = 0; count = 0; sets = sets; links = []; destinations = [] }
 
 -- the links that a route has to go round: those of its set, and none where there is no route or it is marked prohibited
 abbrev pub inTurn : Plan → Route → Bool → List ℕ

@@ -2,7 +2,6 @@
 use crate::state::Need;
 use crate::state::marked;
 use crate::state::serves;
-use plan::data::Destination;
 use plan::data::LinkSet;
 use plan::data::Plan;
 use plan::data::Route;
@@ -33,9 +32,9 @@ fn links_of(those: LinkSet) -> Round
 }
 
 // The links of a route's set, none where there is no route or it is marked prohibited.
-fn round_of(plan: Plan, route: Route, prohibited: bool) -> Round
-    ensures { λ r. ⌜ take (r .m) (r .links) ≡ Which.inTurn plan route prohibited ⌝ }
-    ensures { λ r. ⌜ r .m ≡ length (Which.inTurn plan route prohibited) ⌝ }
+fn round_of(sets: [LinkSet; 8], route: Route, prohibited: bool) -> Round
+    ensures { λ r. ⌜ take (r .m) (r .links) ≡ Which.inTurn (Which.ofSets sets) route prohibited ⌝ }
+    ensures { λ r. ⌜ r .m ≡ length (Which.inTurn (Which.ofSets sets) route prohibited) ⌝ }
 {
     let none = Round {
         m: 0,
@@ -51,14 +50,7 @@ fn round_of(plan: Plan, route: Route, prohibited: bool) -> Round
     if 8 <= set {
         return none;
     }
-    links_of(plan.sets[set])
-}
-
-// A destination's routes by rank.
-fn routes_of(there: Destination) -> [Route; 4]
-    ensures { λ r. ⌜ r ≡ there .routes ⌝ }
-{
-    there.routes
+    links_of(sets[set])
 }
 
 // The link that a message for a destination with an SLS takes, 32 where there is none.
@@ -75,7 +67,25 @@ pub fn choose(
     if 64 <= destination {
         return 32;
     }
-    let routes = routes_of(plan.destinations[destination]);
+    let destinations = plan.destinations;
+    let there = destinations[destination];
+    let routes = there.routes;
+    let sets = plan.sets;
+    choose_by(sets, routes, links, marks, need, destination, sls)
+}
+
+// The same by the sets and the destination's routes alone: they are few octets to hand over.
+pub fn choose_by(
+    sets: [LinkSet; 8],
+    routes: [Route; 4],
+    links: &[u32; 256],
+    marks: &[u32; 512],
+    need: Need,
+    destination: usize,
+    sls: u8,
+) -> u8
+    ensures { λ r. ⌜ r ≡ Which.linkFrom (State.serves (now (links .entry)) need) (State.isMarked (now (marks .entry)) destination) (Which.ofSets sets) sls 0 routes ⌝ }
+{
     let mut rank = 0;
     let found = 'ranks: loop {
         if 4 <= rank {
@@ -84,7 +94,7 @@ pub fn choose(
         let route = routes[rank];
         let prohibited = marked(marks, destination, rank);
         rank += 1;
-        let round = round_of(plan, route, prohibited);
+        let round = round_of(sets, route, prohibited);
         let m = round.m;
         let those = round.links;
         let mut passed = 0;

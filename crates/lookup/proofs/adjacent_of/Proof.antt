@@ -18,16 +18,16 @@ cast-those c = search needs
 mul-those : tie.Need-mul-those
 mul-those c = search needs
 
-element-copy-out-those : tie.Need-element-copy-out-those
-element-copy-out-those c = search needs
+array-copy-out-those : tie.Need-array-copy-out-those
+array-copy-out-those c = search needs
 
 returns-2 : tie.Need-returns-2
 unfolding adjacentOf
 returns-2 c =
-    let of = c .before .before .set-of .ensures in
-    simp (of, lt-ltb _ _ (rw of at (c .before .if1 .left)))
+    let of = c .before .before .before .set-of .ensures in
+    simp (of, lt-ltb _ _ (rw of at (c .before .before .if1 .left)))
 
 pub adjacent-of-spec : {M : Type 1} → statement M
 adjacent-of-spec =
     tie.close
-    (tie.spec set-of-requires returns cast-those mul-those element-copy-out-those returns-2)
+    (tie.spec set-of-requires returns cast-those mul-those array-copy-out-those returns-2)

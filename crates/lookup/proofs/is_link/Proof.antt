@@ -7,23 +7,23 @@ use Rattle.lookup.proofs.is_link.Tie as tie
 
 returns : tie.Need-returns
 unfolding isLink
-returns c = simp (not-true (c .before .args .t1 .given) (c .if1 .taken))
+returns c = simp (not-true (c .before .before .args .plan .given) (c .if1 .taken))
 
 returns-2 : tie.Need-returns-2
 unfolding isLink
-returns-2 c = simp (not-false (c .before .before .args .t1 .given) (c .before .if1 .left), le-ltb _ _ (c .if2 .taken))
+returns-2 c = simp (not-false (c .before .before .before .args .plan .given) (c .before .if1 .left), le-ltb _ _ (c .if2 .taken))
 
 mul-there : tie.Need-mul-there
 mul-there c = search needs
 
-element-copy-out-there : tie.Need-element-copy-out-there
-element-copy-out-there c = search needs
+array-copy-out-there : tie.Need-array-copy-out-there
+array-copy-out-there c = search needs
 
 returns-3 : tie.Need-returns-3
 unfolding isLink
 returns-3 c =
-    let tests = c .before in
-    simp (not-false (tests .before .before .args .t1 .given) (tests .before .if1 .left), lt-ltb _ _ (tests .if2 .left))
+    let tests = c .before .before in
+    simp (not-false (tests .before .before .before .args .plan .given) (tests .before .if1 .left), lt-ltb _ _ (tests .if2 .left))
 
 pub is-link-spec : {M : Type 1} → statement M
-is-link-spec = tie.close (tie.spec returns returns-2 mul-there element-copy-out-there returns-3)
+is-link-spec = tie.close (tie.spec returns returns-2 mul-there array-copy-out-there returns-3)

@@ -12,12 +12,12 @@ returns c = simp (le-ltb _ _ (c .if1 .taken))
 mul-there : tie.Need-mul-there
 mul-there c = search needs
 
-element-copy-out-there : tie.Need-element-copy-out-there
-element-copy-out-there c = search needs
+array-copy-out-there : tie.Need-array-copy-out-there
+array-copy-out-there c = search needs
 
 returns-2 : tie.Need-returns-2
 unfolding slcOf
-returns-2 c = simp (lt-ltb _ _ (c .before .if1 .left))
+returns-2 c = simp (lt-ltb _ _ (c .before .before .if1 .left))
 
 pub slc-of-spec : {M : Type 1} → statement M
-slc-of-spec = tie.close (tie.spec returns mul-there element-copy-out-there returns-2)
+slc-of-spec = tie.close (tie.spec returns mul-there array-copy-out-there returns-2)

@@ -6,16 +6,13 @@ use Rattle.bench.proofs.failing.run.Statement.{statement}
 use Rattle.bench.proofs.failing.run.Tie as tie
 
 abbrev Inv-loop : tie.InvT-loop
-Inv-loop plan links₀ marks₀ spans₀ rings₀ rows₀ octets₀ arrivals₀ messages times moved₀ round₀ t15 t16 t17 links marks spans rings rows octets arrivals moved round = round ≤ times
+Inv-loop plan links₀ marks₀ spans₀ rings₀ rows₀ octets₀ arrivals₀ messages times moved₀ time₀ t15 t16 t17 links marks spans rings rows octets arrivals moved time = time ≤ times
 
 abbrev μ-loop : tie.MeasureT-loop
-μ-loop plan links₀ marks₀ spans₀ rings₀ rows₀ octets₀ arrivals₀ messages times moved₀ round₀ t15 t16 t17 links marks spans rings rows octets arrivals moved round = times - round
+μ-loop plan links₀ marks₀ spans₀ rings₀ rows₀ octets₀ arrivals₀ messages times moved₀ time₀ t15 t16 t17 links marks spans rings rows octets arrivals moved time = times - time
 
 loop-holds : tie.Need-loop-holds Inv-loop μ-loop
 loop-holds c = search needs
-
-cast-fsn : tie.Need-cast-fsn Inv-loop μ-loop
-cast-fsn c = search needs
 
 fail-once-requires : tie.Need-fail-once-requires Inv-loop μ-loop
 fail-once-requires c κs = search needs
@@ -23,8 +20,8 @@ fail-once-requires c κs = search needs
 wrapping-add-u64-requires : tie.Need-wrapping-add-u64-requires Inv-loop μ-loop
 wrapping-add-u64-requires c κs = search needs
 
-add-round : tie.Need-add-round Inv-loop μ-loop
-add-round c = search needs
+add-time : tie.Need-add-time Inv-loop μ-loop
+add-time c = search needs
 
 loop-less : tie.Need-loop-less Inv-loop μ-loop
 loop-less c = search needs
@@ -60,10 +57,9 @@ run-spec =
     Inv-loop
     μ-loop
     loop-holds
-    cast-fsn
     fail-once-requires
     wrapping-add-u64-requires
-    add-round
+    add-time
     loop-less
     loop-again
     slice-aggregate-show

@@ -1,33 +1,42 @@
 -- `bench::handing::hand_over` is safe and ends: each turn hands one message over.
 -- Assumes nothing.
 use borrow.Author.Needs.{needs}
-use Prim.Native.Nat.{_-_, _≤_}
+use Prim.Native.Nat.{_≤_}
 use Rattle.bench.proofs.handing.hand_over.Statement.{statement}
 use Rattle.bench.proofs.handing.hand_over.Tie as tie
 
 abbrev Inv-loop : tie.InvT-loop
-Inv-loop plan links₀ marks₀ spans₀ rings₀ rows₀ octets₀ arrivals₀ first many message₀ queued₀ i₀ links marks spans rings rows octets arrivals message queued i = i ≤ many
+Inv-loop plan links marks spans₀ rings₀ rows₀ octets₀ arrivals₀ round message₀ queued₀ number₀ rest₀ spans rings rows octets arrivals message queued number rest = rest ≤ round .many
 
 abbrev μ-loop : tie.MeasureT-loop
-μ-loop plan links₀ marks₀ spans₀ rings₀ rows₀ octets₀ arrivals₀ first many message₀ queued₀ i₀ links marks spans rings rows octets arrivals message queued i = many - i
-
-letter-requires : tie.Need-letter-requires Inv-loop μ-loop
-letter-requires c κs = search needs
+μ-loop plan links marks spans₀ rings₀ rows₀ octets₀ arrivals₀ round message₀ queued₀ number₀ rest₀ spans rings rows octets arrivals message queued number rest = rest
 
 loop-holds : tie.Need-loop-holds Inv-loop μ-loop
 loop-holds c = search needs
 
-wrapping-add-u64-requires : tie.Need-wrapping-add-u64-requires Inv-loop μ-loop
-wrapping-add-u64-requires c κs = search needs
+element-copy-out-with-sls : tie.Need-element-copy-out-with-sls Inv-loop μ-loop
+element-copy-out-with-sls c = search needs
 
-hand-one-requires : tie.Need-hand-one-requires Inv-loop μ-loop
-hand-one-requires c κs = search needs
+with-sls-requires : tie.Need-with-sls-requires Inv-loop μ-loop
+with-sls-requires c κs = search needs
+
+element-write-message : tie.Need-element-write-message Inv-loop μ-loop
+element-write-message c = search needs
+
+between-requires : tie.Need-between-requires Inv-loop μ-loop
+between-requires c κs = search needs
+
+send-host-requires : tie.Need-send-host-requires Inv-loop μ-loop
+send-host-requires c κs = search needs
 
 counted-requires : tie.Need-counted-requires Inv-loop μ-loop
 counted-requires c κs = search needs
 
-add-i : tie.Need-add-i Inv-loop μ-loop
-add-i c = search needs
+wrapping-add-u64-requires : tie.Need-wrapping-add-u64-requires Inv-loop μ-loop
+wrapping-add-u64-requires c κs = search needs
+
+sub-rest : tie.Need-sub-rest Inv-loop μ-loop
+sub-rest c = search needs
 
 loop-less : tie.Need-loop-less Inv-loop μ-loop
 loop-less c = search needs
@@ -44,12 +53,15 @@ hand-over-spec =
     (tie.spec
     Inv-loop
     μ-loop
-    letter-requires
     loop-holds
-    wrapping-add-u64-requires
-    hand-one-requires
+    element-copy-out-with-sls
+    with-sls-requires
+    element-write-message
+    between-requires
+    send-host-requires
     counted-requires
-    add-i
+    wrapping-add-u64-requires
+    sub-rest
     loop-less
     loop-again
     returns)

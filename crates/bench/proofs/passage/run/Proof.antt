@@ -1,4 +1,4 @@
--- `bench::passage::run` is safe and ends: each turn takes in at least one of the rest.
+-- `bench::passage::run` is safe and ends: each turn takes at least one of the rest.
 -- Assumes nothing.
 use borrow.Author.Needs.{needs}
 use mathlib.Core.Logic.{⊎-elim}
@@ -8,10 +8,10 @@ use Rattle.bench.proofs.passage.run.Statement.{statement}
 use Rattle.bench.proofs.passage.run.Tie as tie
 
 abbrev Inv-loop : tie.InvT-loop
-Inv-loop plan links₀ marks₀ spans₀ rings₀ rows₀ octets₀ arrivals₀ count reports₀ rest₀ passed₀ left₀ t17 t18 t19 links marks spans rings rows octets arrivals reports rest passed left = rest ≤ count
+Inv-loop plan links₀ marks₀ spans₀ rings₀ rows₀ octets₀ arrivals₀ host count message₀ reports₀ rest₀ queued₀ left₀ links marks spans rings rows octets arrivals message reports rest queued left = rest ≤ count
 
 abbrev μ-loop : tie.MeasureT-loop
-μ-loop plan links₀ marks₀ spans₀ rings₀ rows₀ octets₀ arrivals₀ count reports₀ rest₀ passed₀ left₀ t17 t18 t19 links marks spans rings rows octets arrivals reports rest passed left = rest
+μ-loop plan links₀ marks₀ spans₀ rings₀ rows₀ octets₀ arrivals₀ host count message₀ reports₀ rest₀ queued₀ left₀ links marks spans rings rows octets arrivals message reports rest queued left = rest
 
 -- a turn has at least one message, and no more than are left
 some : (c : tie.Joined1 Inv-loop μ-loop) → (c .if1 .many ≤ c .before .before .loop .rest) × (0 < c .if1 .many)
@@ -21,14 +21,25 @@ some c =
     (λ w. (omega (arith, w .0 .left, w .1), omega (arith, w .1)))
     (c .if1 .came)
 
+-- where a turn's number of messages is settled
+abbrev many-of : tie.After-row-known Inv-loop μ-loop → tie.Joined1 Inv-loop μ-loop
+many-of c =
+    c .before .before .before .before .before .before .before .before .before .before .before .before .before .before .before .before .before .before .before
+
+origin-requires : tie.Need-origin-requires Inv-loop μ-loop
+origin-requires c κs = search needs
+
+letter-requires : tie.Need-letter-requires Inv-loop μ-loop
+letter-requires c κs = search needs
+
 loop-holds : tie.Need-loop-holds Inv-loop μ-loop
 loop-holds c = search needs
 
-sub-take-in : tie.Need-sub-take-in Inv-loop μ-loop
-sub-take-in c = search needs
+sub-t24 : tie.Need-sub-t24 Inv-loop μ-loop
+sub-t24 c = search needs
 
-take-in-requires : tie.Need-take-in-requires Inv-loop μ-loop
-take-in-requires c κs = search needs
+come-requires : tie.Need-come-requires Inv-loop μ-loop
+come-requires c κs = search needs
 
 empty-all-requires : tie.Need-empty-all-requires Inv-loop μ-loop
 empty-all-requires c κs = search needs
@@ -40,31 +51,16 @@ wrapping-add-u64-requires-2 : tie.Need-wrapping-add-u64-requires-2 Inv-loop μ-l
 wrapping-add-u64-requires-2 c κs = search needs
 
 sub-rest : tie.Need-sub-rest Inv-loop μ-loop
-sub-rest c = search (needs, some (c .before .before .before .before .before .before .before .before .before .before .before .before .before .before .before .before .before .before))
+sub-rest c = search (needs, some (many-of c))
 
 loop-less : tie.Need-loop-less Inv-loop μ-loop
-loop-less c = search (needs, some (c .before .before .before .before .before .before .before .before .before .before .before .before .before .before .before .before .before .before))
+loop-less c = search (needs, some (many-of c))
 
 loop-again : tie.Need-loop-again Inv-loop μ-loop
-loop-again c = search (needs, some (c .before .before .before .before .before .before .before .before .before .before .before .before .before .before .before .before .before .before))
+loop-again c = search (needs, some (many-of c))
 
-slice-aggregate-show : tie.Need-slice-aggregate-show Inv-loop μ-loop
-slice-aggregate-show c = search needs
-
-show-requires : tie.Need-show-requires Inv-loop μ-loop
-show-requires c κs = search needs
-
-slice-aggregate-show-2 : tie.Need-slice-aggregate-show-2 Inv-loop μ-loop
-slice-aggregate-show-2 c = search needs
-
-show-requires-2 : tie.Need-show-requires-2 Inv-loop μ-loop
-show-requires-2 c κs = search needs
-
-slice-aggregate-show-3 : tie.Need-slice-aggregate-show-3 Inv-loop μ-loop
-slice-aggregate-show-3 c = search needs
-
-show-requires-3 : tie.Need-show-requires-3 Inv-loop μ-loop
-show-requires-3 c κs = search needs
+tell-requires : tie.Need-tell-requires Inv-loop μ-loop
+tell-requires c κs = search needs
 
 returns : tie.Need-returns Inv-loop μ-loop
 returns c = search needs
@@ -75,19 +71,16 @@ run-spec =
     (tie.spec
     Inv-loop
     μ-loop
+    origin-requires
+    letter-requires
     loop-holds
-    sub-take-in
-    take-in-requires
+    sub-t24
+    come-requires
     empty-all-requires
     wrapping-add-u64-requires
     wrapping-add-u64-requires-2
     sub-rest
     loop-less
     loop-again
-    slice-aggregate-show
-    show-requires
-    slice-aggregate-show-2
-    show-requires-2
-    slice-aggregate-show-3
-    show-requires-3
+    tell-requires
     returns)

@@ -1,9 +1,13 @@
 -- `passing::host::offer` meets its contract: our own DPC and one with no way are refused, another goes by the place that it finds.
 -- Assumes nothing.
 use borrow.Author.Needs.{needs}
+use mathlib.Core.Path.{ap}
+use Prim.Native.Nat.{ℕ}
+use Rattle.access.specs.declared.way.Direction.{Direction}
 use mathlib.Core.Bool.{true}
 use mathlib.Core.List.{[]}
 use Rattle.replies.specs.Areas.{Areas, areas}
+use Rattle.passing.proofs.Flagged.{ring-there}
 use Rattle.passing.proofs.Placing.{no-way, placed}
 use Rattle.passing.proofs.Offering.{ours-refused, others-refused, offer-refused, offer-queued}
 use Rattle.passing.proofs.host.offer.Statement.{statement}
@@ -11,6 +15,9 @@ use Rattle.passing.proofs.host.offer.Tie as tie
 
 plain-requires : tie.Need-plain-requires
 plain-requires c κs = search needs
+
+abbrev the-link : Direction → ℕ
+the-link to = to .link
 
 -- the areas before it
 abbrev before : tie.Start → Areas
@@ -28,22 +35,22 @@ returns c =
 for-users-requires : tie.Need-for-users-requires
 for-users-requires c κs = search needs
 
-way-requires : tie.Need-way-requires
-way-requires c κs = search needs
+directed-requires : tie.Need-directed-requires
+directed-requires c κs = search needs
 
 plain-requires-2 : tie.Need-plain-requires-2
 plain-requires-2 c κs = search needs
 
 returns-2 : tie.Need-returns-2
 returns-2 c =
-    let link = c .before .before .way in
-    let need = c .before .before .before .for-users in
-    let at-if = c .before .before .before .before in
+    let to = c .before .before .before .directed in
+    let need = c .before .before .before .before .for-users in
+    let at-if = c .before .before .before .before .before in
     let start = at-if .before .before .before .before in
     let a = start .args in
     offer-refused (a .plan) (a .label) (before start) (a .octets .now) (a .message .now)
     (others-refused (a .plan) (a .label) (before start) (at-if .if1 .left) true
-    (no-way (a .plan) (before start) (a .label) (need .result) (need .ensures) (link .result) (link .ensures) (c .before .if2 .taken)))
+    (no-way (a .plan) (before start) (a .label) (need .result) (need .ensures) (to .result .link) (ap the-link (to .ensures)) (c .before .if2 .taken)))
     (c .plain2 .result) (c .plain2 .ensures)
 
 ring-of-requires : tie.Need-ring-of-requires
@@ -60,17 +67,18 @@ returns-3 c =
     let q = c .before .queue-user in
     let at-ring = c .before .before .before .before .before .before .before in
     let ring = at-ring .ring-of in
-    let link = at-ring .before .before .way in
-    let need = at-ring .before .before .before .for-users in
-    let at-if = at-ring .before .before .before .before in
+    let to = at-ring .before .before .before .directed in
+    let need = at-ring .before .before .before .before .for-users in
+    let at-if = at-ring .before .before .before .before .before in
     let start = at-if .before .before .before .before in
     let a = start .args in
     let l = q .last in
     offer-queued (a .plan) (a .label) (before start) (a .octets .now) (a .message .now) (at-if .if1 .left) (q .result)
     (areas (a .links .now) (a .marks .now) (l .0) (l .1 .0) (l .1 .1 .0) (l .1 .1 .1 .1 .0) [])
     (l .1 .1 .1 .0)
-    (placed (a .plan) (before start) (a .label) (a .octets .now) (a .message .now) (need .result) (need .ensures) (link .result)
-    (link .ensures) (at-ring .before .if2 .left) (ring .result) (ring .ensures) (q .result) (l .0) (l .1 .0) (l .1 .1 .0)
+    (placed (a .plan) (before start) (a .label) (a .octets .now) (a .message .now) (need .result) (need .ensures) (to .result .link)
+    (ap the-link (to .ensures)) (at-ring .before .if2 .left) (ring .result)
+    (ring-there (a .plan) (a .links .now) (a .marks .now) (need .result) (a .label) (to .result) (to .ensures) (ring .result) (ring .ensures)) (q .result) (l .0) (l .1 .0) (l .1 .1 .0)
     (l .1 .1 .1 .0) (l .1 .1 .1 .1 .0) (q .ensures))
     (c .plain3 .result) (c .plain3 .ensures)
 
@@ -81,7 +89,7 @@ offer-spec =
     plain-requires
     returns
     for-users-requires
-    way-requires
+    directed-requires
     plain-requires-2
     returns-2
     ring-of-requires

@@ -1,7 +1,11 @@
 -- `passing::pass::pass_on` meets its contract: with no way it goes as one that can't be reached, with one by the place that it finds.
 -- Assumes nothing.
 use borrow.Author.Needs.{needs}
+use mathlib.Core.Path.{ap}
+use Prim.Native.Nat.{ℕ}
+use Rattle.access.specs.declared.way.Direction.{Direction}
 use Rattle.replies.specs.Areas.{Areas, areas}
+use Rattle.passing.proofs.Flagged.{ring-there}
 use Rattle.passing.proofs.Placing.{no-way, Placed, placed, passed-nowhere, passed-lacking, passed-on}
 use Rattle.passing.proofs.pass.pass_on.Statement.{statement}
 use Rattle.passing.proofs.pass.pass_on.Tie as tie
@@ -9,11 +13,14 @@ use Rattle.passing.proofs.pass.pass_on.Tie as tie
 for-users-requires : tie.Need-for-users-requires
 for-users-requires c κs = search needs
 
-way-requires : tie.Need-way-requires
-way-requires c κs = search needs
+directed-requires : tie.Need-directed-requires
+directed-requires c κs = search needs
 
 not-reached-requires : tie.Need-not-reached-requires
 not-reached-requires c κs = search needs
+
+abbrev the-link : Direction → ℕ
+the-link to = to .link
 
 -- the areas before it
 abbrev before : tie.Start → Areas
@@ -25,13 +32,13 @@ returns : tie.Need-returns
 returns c =
     let r = c .not-reached in
     let at-if = c .before .before .before .before .before .before .before in
-    let link = at-if .before .way in
-    let need = at-if .before .before .for-users in
-    let start = at-if .before .before .before .before .before .before .before in
+    let to = at-if .before .before .directed in
+    let need = at-if .before .before .before .for-users in
+    let start = at-if .before .before .before .before .before .before .before .before in
     let a = start .args in
     let l = r .last .1 in
     passed-nowhere (a .plan) (a .arriving) (a .fsn) (a .label) (before start) (a .octets .now) (a .message .now)
-    (no-way (a .plan) (before start) (a .label) (need .result) (need .ensures) (link .result) (link .ensures) (at-if .if1 .taken))
+    (no-way (a .plan) (before start) (a .label) (need .result) (need .ensures) (to .result .link) (ap the-link (to .ensures)) (at-if .if1 .taken))
     (r .result)
     (areas (l .0) (l .1 .0) (l .1 .1 .0) (l .1 .1 .1 .0) (l .1 .1 .1 .1 .0) (l .1 .1 .1 .1 .1 .0) (a .reports .now))
     (r .ensures)
@@ -44,7 +51,7 @@ queue-user-requires c κs = search needs
 
 -- where the call started
 abbrev start-of : tie.After-queue-user → tie.Start
-start-of c = c .before .before .before .before .before .before .before .before .before .before .before .before .before .before .before
+start-of c = c .before .before .before .before .before .before .before .before .before .before .before .before .before .before .before .before
 
 -- the areas after a place was asked for
 abbrev after : tie.After-queue-user → Areas
@@ -62,13 +69,14 @@ place-asked c =
     let at-ring = c .before .before .before .before .before .before in
     let ring = at-ring .ring-of in
     let at-if = at-ring .before .before in
-    let link = at-if .before .way in
-    let need = at-if .before .before .for-users in
+    let to = at-if .before .before .directed in
+    let need = at-if .before .before .before .for-users in
     let start = start-of c in
     let a = start .args in
     let l = c .queue-user .last in
-    placed (a .plan) (before start) (a .label) (a .octets .now) (a .message .now) (need .result) (need .ensures) (link .result)
-    (link .ensures) (at-if .if1 .left) (ring .result) (ring .ensures) (c .queue-user .result) (l .0) (l .1 .0) (l .1 .1 .0)
+    placed (a .plan) (before start) (a .label) (a .octets .now) (a .message .now) (need .result) (need .ensures) (to .result .link)
+    (ap the-link (to .ensures)) (at-if .if1 .left) (ring .result)
+    (ring-there (a .plan) (a .links .now) (a .marks .now) (need .result) (a .label) (to .result) (to .ensures) (ring .result) (ring .ensures)) (c .queue-user .result) (l .0) (l .1 .0) (l .1 .1 .0)
     (l .1 .1 .1 .0) (l .1 .1 .1 .1 .0) (c .queue-user .ensures)
 
 plain-requires : tie.Need-plain-requires
@@ -105,7 +113,7 @@ pass-on-spec =
     tie.close
     (tie.spec
     for-users-requires
-    way-requires
+    directed-requires
     not-reached-requires
     returns
     ring-of-requires

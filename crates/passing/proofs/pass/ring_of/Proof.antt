@@ -1,32 +1,24 @@
--- `passing::pass::ring_of` meets its contract: the ring goes by T6 of the destination that is found.
+-- `passing::pass::ring_of` meets its contract: the ring goes by T6, as it is read.
 -- Assumes nothing.
 use borrow.Author.Needs.{needs}
-use mathlib.Core.Bool.{true, false}
-use Rattle.passing.proofs.Flagged.{ring-is}
+use mathlib.Core.Path.{sym, ap, _∙_}
+use mathlib.Core.Bool.{Bool, cond}
+use Rattle.moving.specs.Move.{apart}
 use Rattle.passing.proofs.pass.ring_of.Statement.{statement}
 use Rattle.passing.proofs.pass.ring_of.Tie as tie
-
-find-requires : tie.Need-find-requires
-find-requires c κs = search needs
 
 flag-requires : tie.Need-flag-requires
 flag-requires c κs = search needs
 
 returns : tie.Need-returns
 returns c =
-    let read = c .before .flag in
-    let found = c .before .before .find in
-    let a = c .before .before .before .args in
-    ring-is (a .plan) (a .marks .now) (a .label) (a .link) (found .result) (found .ensures) (read .result) (read .ensures) true
-    (c .if1 .taken)
+    let a = c .before .before .args in
+    ap (λ (t : Bool). cond t apart (a .to .link)) (sym (c .if1 .taken) ∙ c .before .flag .ensures)
 
 returns-2 : tie.Need-returns-2
 returns-2 c =
-    let read = c .before .flag in
-    let found = c .before .before .find in
-    let a = c .before .before .before .args in
-    ring-is (a .plan) (a .marks .now) (a .label) (a .link) (found .result) (found .ensures) (read .result) (read .ensures) false
-    (c .if1 .left)
+    let a = c .before .before .args in
+    ap (λ (t : Bool). cond t apart (a .to .link)) (sym (c .if1 .left) ∙ c .before .flag .ensures)
 
 pub ring-of-spec : {M : Type 1} → statement M
-ring-of-spec = tie.close (tie.spec find-requires flag-requires returns returns-2)
+ring-of-spec = tie.close (tie.spec flag-requires returns returns-2)

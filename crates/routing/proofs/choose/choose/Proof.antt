@@ -1,235 +1,46 @@
--- `routing::choose::choose` meets its contract. The invariant of the walk round a set: what is left of it yields what the whole
--- yields; that of the walk over ranks: what is left of it yields the pair's link. The measures are what is left.
+-- `routing::choose::choose` meets its contract: past the last destination there is no link, and else its routes and the sets say it.
 -- Assumes nothing.
 use borrow.Author.Needs.{needs}
-use mathlib.Core.Path.{_≡_, refl, sym, ap, _∙_}
+use mathlib.Core.Path.{_≡_, _∙_}
 use mathlib.Core.Bool.{Bool}
-use mathlib.Core.List.{List}
-use mathlib.Core.Logic.{⊎-elim}
-use Prim.Native.Nat.{ℕ, _+_, _-_, _≤_, _<_}
-use native.Mathlib.Nat.{mod-lt}
+use Prim.Native.Nat.{ℕ}
 use native.Mathlib.Omega.{arith}
-use lib.ListN.{length, take, getD, length-take}
-use Rattle.plan.specs.declared.data.Route.{Route}
+use lib.ListN.{length}
+use Rattle.plan.specs.Data.{routesOf}
 use Rattle.routing.specs.State as State
-use Rattle.plan.specs.Data.{noRoute}
-use Rattle.routing.specs.Which.{Proper, inTurn, linkFor, chosen}
 use Rattle.plan.proofs.Tables.{unmapped}
-use Rattle.routing.proofs.Ranks.{onward, no-destination, past-ranks, rank-passed, rank-taken}
-use Rattle.routing.proofs.Serving.{walk, walk-on, walk-found, walk-end, serves-proper}
+use Rattle.routing.proofs.Ranks.{no-destination, sets-alone}
 use Rattle.routing.proofs.choose.choose.Statement.{statement}
 use Rattle.routing.proofs.choose.choose.Tie as tie
 
-abbrev Inv-loop : tie.InvT-loop
-Inv-loop links marks need destination sls plan routes rank prohibited m those passed₀ passed =
-    (passed ≤ m) × (walk (State.serves links need) (take m those) sls passed
-    ≡ linkFor (State.serves links need) (take m those) sls)
-
-abbrev μ-loop : tie.MeasureT-loop
-μ-loop links marks need destination sls plan routes rank prohibited m those passed₀ passed = m - passed
-
-abbrev Inv-ranks : tie.InvT-ranks
-Inv-ranks links marks need destination sls plan routes rank₀ rank =
-    (rank ≤ 4) × (onward (State.serves links need) (State.isMarked marks destination) plan sls routes rank
-    ≡ chosen (State.serves links need) (State.isMarked marks destination) plan destination sls)
-
-abbrev μ-ranks : tie.MeasureT-ranks
-μ-ranks links marks need destination sls plan routes rank₀ rank = 4 - rank
-
 -- what the arguments say: which links serve, and which routes are marked
-abbrev serving : tie.Start Inv-loop μ-loop Inv-ranks μ-ranks → ℕ → Bool
+abbrev serving : tie.Start → ℕ → Bool
 serving s = State.serves (s .args .links .now) (s .args .need)
 
-abbrev marks : tie.Start Inv-loop μ-loop Inv-ranks μ-ranks → ℕ → Bool
+abbrev marks : tie.Start → ℕ → Bool
 marks s = State.isMarked (s .args .marks .now) (s .args .destination)
 
-four : (c : tie.After-routes-of Inv-loop μ-loop Inv-ranks μ-ranks) → length (c .routes-of .result) ≡ 4
-four c = search (needs, unmapped)
-
--- m is the number of links to go round
-all : (c : tie.After-those Inv-loop μ-loop Inv-ranks μ-ranks)
-    → let r = c .before .round-of .result in
-    r .m ≡ length (take (r .m) (r .links))
-all c = let round = c .before .round-of in round .ensures .1 ∙ ap length (sym (round .ensures .0))
-
-few : (c : tie.After-those Inv-loop μ-loop Inv-ranks μ-ranks) → c .before .round-of .result .m ≤ 8
-few c =
-    let r = c .before .round-of .result in
-    let places : length (r .links) ≡ 8 = search needs in
-    omega (arith, all c, length-take (r .m) (r .links))
-
--- where the ways out of the walk round a set meet, the link is that of the route's set
-found : (c : tie.Joined3 Inv-loop μ-loop Inv-ranks μ-ranks)
-    → let at = c .before .before .before .before .before .before .before in
-    let s = at .before .before .before .before in
-    let route = getD (at .before .routes-of .result) (at .ranks .rank) noRoute in
-    c .if3 .link ≡ linkFor (serving s) (inTurn (s .args .t1) route (marks s (at .ranks .rank))) (s .args .sls)
-found c =
-    let l = c .before in
-    let those = l .before in
-    let round = those .before .round-of in
-    let r = round .result in
-    let at = those .before .before .before .before .before in
-    let s = at .before .before .before .before in
-    let sls = s .args .sls in
-    let route : Route = getD (at .before .routes-of .result) (at .ranks .rank) noRoute in
-    let walked : c .if3 .link ≡ linkFor (serving s) (take (r .m) (r .links)) sls =
-    ⊎-elim
-    (λ w.
-    w .2 ∙ walk-end (serving s) (r .links) (r .m) sls (all those) (l .loop .passed) (w .0 .taken) ∙ l .loop .inv .1)
-    (λ w.
-    let test = sym (w .1 .ensures) ∙ w .2 .taken in
-    w .4 ∙ walk-found (serving s) (r .links) (r .m) sls (all those) (l .loop .passed) (w .0 .left) test ∙ l .loop .inv .1)
-    (c .if3 .came)
-    in
-    walked
-    ∙ ap (λ (links : List ℕ). linkFor (serving s) links sls) (round .ensures .0)
-    ∙ ap
-    (λ (mark : Bool). linkFor (serving s) (inTurn (s .args .t1) route mark) sls)
-    (those .before .before .marked .ensures)
-
-returns : tie.Need-returns Inv-loop μ-loop Inv-ranks μ-ranks
+returns : tie.Need-returns
 returns c =
-    let a = c .before .args in
-    let last : length (a .t1 .destinations) ≡ 64 = search (needs, unmapped) in
-    no-destination (serving (c .before)) (marks (c .before)) (a .t1) (a .destination) (a .sls) (omega arith)
+    let s = c .before in
+    let a = s .args in
+    let last : length (a .plan .destinations) ≡ 64 = search (needs, unmapped) in
+    no-destination (serving s) (marks s) (a .plan) (a .destination) (a .sls) (omega arith)
 
-mul-routes-of : tie.Need-mul-routes-of Inv-loop μ-loop Inv-ranks μ-ranks
-mul-routes-of c = search needs
+mul-there : tie.Need-mul-there
+mul-there c = search needs
 
-element-copy-out-routes-of : tie.Need-element-copy-out-routes-of Inv-loop μ-loop Inv-ranks μ-ranks
-element-copy-out-routes-of c = search needs
+array-copy-out-there : tie.Need-array-copy-out-there
+array-copy-out-there c = search needs
 
-routes-of-requires : tie.Need-routes-of-requires Inv-loop μ-loop Inv-ranks μ-ranks
-routes-of-requires c κs = search needs
+choose-by-requires : tie.Need-choose-by-requires
+choose-by-requires c κs = search needs
 
-ranks-holds : tie.Need-ranks-holds Inv-loop μ-loop Inv-ranks μ-ranks
-ranks-holds c =
-    let s = c .before .before .before in (
-      omega arith,
-      ap
-          (λ (routes : List Route). onward (serving s) (marks s) (s .args .t1) (s .args .sls) routes 0)
-          (c .routes-of .ensures),
-    )
-
-mul-route : tie.Need-mul-route Inv-loop μ-loop Inv-ranks μ-ranks
-mul-route c = search needs
-
-array-copy-out-route : tie.Need-array-copy-out-route Inv-loop μ-loop Inv-ranks μ-ranks
-array-copy-out-route c = search needs
-
-marked-requires : tie.Need-marked-requires Inv-loop μ-loop Inv-ranks μ-ranks
-marked-requires c κs = search needs
-
-add-rank : tie.Need-add-rank Inv-loop μ-loop Inv-ranks μ-ranks
-add-rank c = search needs
-
-round-of-requires : tie.Need-round-of-requires Inv-loop μ-loop Inv-ranks μ-ranks
-round-of-requires c κs = search needs
-
-loop-holds : tie.Need-loop-holds Inv-loop μ-loop Inv-ranks μ-ranks
-loop-holds c = (omega arith, refl)
-
-add-next : tie.Need-add-next Inv-loop μ-loop Inv-ranks μ-ranks
-add-next c = omega (arith, few (c .before .before))
-
-rem-next : tie.Need-rem-next Inv-loop μ-loop Inv-ranks μ-ranks
-rem-next c = search needs
-
-array-read-next : tie.Need-array-read-next Inv-loop μ-loop Inv-ranks μ-ranks
-array-read-next c =
-    let those = c .before .before in
-    let a = those .before .before .before .before .before .before .before .before .before .args in
-    let m = those .before .round-of .result .m in
-    omega (arith, few those, mod-lt (a .sls + c .before .loop .passed) {m = m} (omega arith))
-
-add-passed : tie.Need-add-passed Inv-loop μ-loop Inv-ranks μ-ranks
-add-passed c = search needs
-
-serves-requires : tie.Need-serves-requires Inv-loop μ-loop Inv-ranks μ-ranks
-serves-requires c κs = search needs
-
-loop-less : tie.Need-loop-less Inv-loop μ-loop Inv-ranks μ-ranks
-loop-less c = search needs
-
-loop-again : tie.Need-loop-again Inv-loop μ-loop Inv-ranks μ-ranks
-loop-again c =
-    let l = c .before .before .before in
-    let those = l .before in
-    let r = those .before .round-of .result in
-    let s = those .before .before .before .before .before .before .before .before .before in
-    let test = sym (c .before .serves .ensures) ∙ c .if4 .left in
-    let inside = c .before .before .if3 .left in (
-      omega arith,
-      walk-on (serving s) (r .links) (r .m) (s .args .sls) (all those) (l .loop .passed) inside test ∙ l .loop .inv .1,
-    )
-
--- each rank that is walked over has a route
-ranked : (c : tie.Joined3 Inv-loop μ-loop Inv-ranks μ-ranks)
-    → let at = c .before .before .before .before .before .before .before in
-    at .ranks .rank < length (at .before .routes-of .result)
-ranked c = omega (arith, four (c .before .before .before .before .before .before .before .before))
-
-ranks-less : tie.Need-ranks-less Inv-loop μ-loop Inv-ranks μ-ranks
-ranks-less c = search needs
-
-ranks-again : tie.Need-ranks-again Inv-loop μ-loop Inv-ranks μ-ranks
-ranks-again c =
-    let joined = c .before in
-    let at = joined .before .before .before .before .before .before .before in
-    let s = at .before .before .before .before in
-    let proper : Proper (serving s) = serves-proper (s .args .links .now) (s .args .need) in (
-      omega arith,
-      rank-passed (serving s) (marks s) (s .args .t1) (s .args .sls) (at .before .routes-of .result) proper
-          (at .ranks .rank) (joined .if3 .link) (ranked joined) (found joined) (c .if5 .left)
-          ∙ at .ranks .inv .1,
-    )
-
-returns-2 : tie.Need-returns-2 Inv-loop μ-loop Inv-ranks μ-ranks
+returns-2 : tie.Need-returns-2
 returns-2 c =
-    let at = c .before in
-    let s = at .before .before .before .before in
-    past-ranks (serving s) (marks s) (s .args .t1) (s .args .sls) (at .before .routes-of .result)
-    (at .ranks .rank) (omega (arith, four (at .before)))
-    ∙ at .ranks .inv .1
-
-returns-3 : tie.Need-returns-3 Inv-loop μ-loop Inv-ranks μ-ranks
-returns-3 c =
-    let joined = c .before in
-    let at = joined .before .before .before .before .before .before .before in
-    let s = at .before .before .before .before in
-    let proper : Proper (serving s) = serves-proper (s .args .links .now) (s .args .need) in
-    rank-taken (serving s) (marks s) (s .args .t1) (s .args .sls) (at .before .routes-of .result) proper
-    (at .ranks .rank) (joined .if3 .link) (ranked joined) (found joined) (c .if5 .taken)
-    ∙ at .ranks .inv .1
+    let s = c .before .before .before .before .before .before in
+    let a = s .args in
+    c .choose-by .ensures ∙ sets-alone (serving s) (marks s) (a .plan) (a .sls) 0 (routesOf (a .plan) (a .destination))
 
 pub choose-spec : {M : Type 1} → statement M
-choose-spec =
-    tie.close
-    (tie.spec
-    Inv-loop
-    μ-loop
-    Inv-ranks
-    μ-ranks
-    returns
-    mul-routes-of
-    element-copy-out-routes-of
-    routes-of-requires
-    ranks-holds
-    mul-route
-    array-copy-out-route
-    marked-requires
-    add-rank
-    round-of-requires
-    loop-holds
-    add-next
-    rem-next
-    array-read-next
-    add-passed
-    serves-requires
-    loop-less
-    loop-again
-    ranks-less
-    ranks-again
-    returns-2
-    returns-3)
+choose-spec = tie.close (tie.spec returns mul-there array-copy-out-there choose-by-requires returns-2)

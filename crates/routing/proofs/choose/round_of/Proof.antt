@@ -8,6 +8,7 @@ use native.Mathlib.Omega.{arith}
 use lib.ListN.{length}
 use borrow.Author.Tests.{not-true, not-false}
 use Rattle.plan.proofs.Tables.{unmapped}
+use Rattle.routing.specs.Which.{ofSets}
 use Rattle.routing.proofs.InTurn.{nothing, no-set}
 use Rattle.routing.proofs.choose.round_of.Statement.{statement}
 use Rattle.routing.proofs.choose.round_of.Tie as tie
@@ -15,12 +16,12 @@ use Rattle.routing.proofs.choose.round_of.Tie as tie
 returns : tie.Need-returns
 returns c =
     let a = c .before .before .args in
-    nothing (a .t1) (a .route) (a .prohibited) (simp (not-true (a .route .given) (c .if1 .taken)))
+    nothing (ofSets (a .t1)) (a .route) (a .prohibited) (simp (not-true (a .route .given) (c .if1 .taken)))
 
 returns-2 : tie.Need-returns-2
 returns-2 c =
     let a = c .before .before .before .args in
-    nothing (a .t1) (a .route) (a .prohibited) (simp (c .if2 .taken, and-false))
+    nothing (ofSets (a .t1)) (a .route) (a .prohibited) (simp (c .if2 .taken, and-false))
 
 cast-set : tie.Need-cast-set
 cast-set c = search needs
@@ -28,15 +29,15 @@ cast-set c = search needs
 returns-3 : tie.Need-returns-3
 returns-3 c =
     let a = c .before .before .before .before .before .args in
-    let sets : length (a .t1 .sets) ≡ 8 = search (needs, unmapped) in
-    let past : length (a .t1 .sets) ≤ a .route .set = omega arith in
-    nothing (a .t1) (a .route) (a .prohibited) (no-set (a .t1) (a .route) (a .prohibited) past)
+    let sets : length (a .t1) ≡ 8 = search (needs, unmapped) in
+    let past : length (a .t1) ≤ a .route .set = omega arith in
+    nothing (ofSets (a .t1)) (a .route) (a .prohibited) (no-set (ofSets (a .t1)) (a .route) (a .prohibited) past)
 
 mul-links-of : tie.Need-mul-links-of
 mul-links-of c = search needs
 
-element-copy-out-links-of : tie.Need-element-copy-out-links-of
-element-copy-out-links-of c = search needs
+array-copy-out-links-of : tie.Need-array-copy-out-links-of
+array-copy-out-links-of c = search needs
 
 links-of-requires : tie.Need-links-of-requires
 links-of-requires c κs = search needs
@@ -56,6 +57,6 @@ round-of-spec =
     cast-set
     returns-3
     mul-links-of
-    element-copy-out-links-of
+    array-copy-out-links-of
     links-of-requires
     returns-4)
