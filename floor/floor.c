@@ -153,15 +153,18 @@ static void change_over(unsigned long messages, unsigned long times)
 int main(int count, char **words)
 {
     const char *what = count < 3 ? "" : words[1];
+    int last = strcmp(what, "changeover") ? 2 : 3;
+    if (count > last + 1)
+        letter_size = strtoul(words[last + 1], 0, 10) % (LONGEST + 1);
     unsigned long first = count < 3 ? 0 : strtoul(words[2], 0, 10);
     configure();
     if (!strcmp(what, "transit"))
         move(adjacent[0], first, "received", "passed on");
     else if (!strcmp(what, "host"))
         move(own, first, "handed over", "queued");
-    else if (!strcmp(what, "changeover") && count == 4)
+    else if (!strcmp(what, "changeover") && count > last)
         change_over(first, strtoul(words[3], 0, 10));
     else
-        return fputs("floor: transit COUNT, changeover MESSAGES TIMES or host COUNT, a configuration on standard input\n", stderr), 2;
+        return fputs("floor: transit COUNT, changeover MESSAGES TIMES or host COUNT, a configuration on standard input, and the messages' length where it isn't 40\n", stderr), 2;
     return 0;
 }

@@ -26,6 +26,7 @@ pub fn run(
     arrivals: &mut [u64; 1],
     messages: u64,
     times: u64,
+    length: usize,
 ) {
     let mut moved = 0;
     let mut time = 0;
@@ -41,6 +42,7 @@ pub fn run(
             arrivals,
             messages,
             time,
+            length,
         );
         moved = std::num::wrapping_add_u64(moved, left);
         time += 1;
@@ -62,6 +64,7 @@ fn fail_once(
     arrivals: &mut [u64; 1],
     messages: u64,
     time: u64,
+    length: usize,
 ) -> u64 {
     fill(
         plan,
@@ -73,6 +76,7 @@ fn fail_once(
         octets,
         arrivals,
         messages,
+        length,
     );
     fail_link(plan, links, marks, spans, rings, rows, arrivals);
     take_answer(
@@ -102,6 +106,7 @@ fn fill(
     octets: &mut [u8; 52416],
     arrivals: &mut [u64; 1],
     messages: u64,
+    length: usize,
 ) {
     let mut message = letter(plan, plan.code);
     let round = Round {
@@ -120,9 +125,9 @@ fn fill(
         arrivals,
         round,
         &mut message,
+        length,
     );
-    let mut out = [0u8; 273];
-    send_all(plan, links, spans, rings, rows, octets, 1, &mut out);
+    send_all(plan, links, spans, rings, rows, octets, 1);
 }
 
 fn fail_link(

@@ -18,6 +18,7 @@ pub fn hand_over(
     arrivals: &mut [u64; 1],
     round: Round,
     message: &mut [u8; 273],
+    length: usize,
 ) -> u64 {
     let mut queued = 0;
     let mut number = round.first;
@@ -33,7 +34,7 @@ pub fn hand_over(
             rows,
             octets,
             arrivals,
-            between(message, 0, 40),
+            between(message, 0, length),
         );
         queued = counted(queued, answer.reply);
         number = std::num::wrapping_add_u64(number, 1);

@@ -1,4 +1,4 @@
-// The messages that are moved: the first 40 octets of an area, from one point to another.
+// The messages that are moved: the first octets of an area, from one point to another.
 use plan::data::Plan;
 
 // The destination behind all others of the plan.

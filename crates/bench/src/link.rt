@@ -79,12 +79,12 @@ pub fn send_all(
     rows: &[u64; 2048],
     octets: &[u8; 52416],
     link: u8,
-    out: &mut [u8; 273],
 ) -> Gone {
+    let mut out = [0u8; 273];
     let mut many = 0;
     let mut last = 0;
     while many < 127 {
-        let answer = send(plan, links, spans, rings, rows, octets, link, out);
+        let answer = send(plan, links, spans, rings, rows, octets, link, &mut out);
         if answer.reply != 0 {
             break;
         }
@@ -104,8 +104,7 @@ fn empty(
     octets: &[u8; 52416],
     link: u8,
 ) -> u64 {
-    let mut out = [0u8; 273];
-    let gone = send_all(plan, links, spans, rings, rows, octets, link, &mut out);
+    let gone = send_all(plan, links, spans, rings, rows, octets, link);
     if 0 < gone.many {
         acknowledge(plan, links, spans, rings, link, gone.last);
     }

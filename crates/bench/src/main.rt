@@ -1,5 +1,5 @@
 // Moves messages through a node and counts them, to be timed from outside: `bench transit COUNT`, `bench changeover MESSAGES TIMES`,
-// `bench host COUNT`, each with a configuration on standard input.
+// `bench host COUNT`, each with a configuration on standard input, and with the messages' length behind it where it isn't 40.
 mod failing;
 mod handing;
 mod letter;
@@ -20,7 +20,7 @@ fn main() {
     if work.times == 0 {
         io::write_all(
             STDERR_FILENO,
-            b"bench: say what to do, with a configuration on standard input: bench transit COUNT, bench changeover MESSAGES TIMES or bench host COUNT\n",
+            b"bench: say what to do, with a configuration on standard input: bench transit COUNT, bench changeover MESSAGES TIMES or bench host COUNT, and the messages' length where it isn't 40\n",
         );
         return;
     }
@@ -96,6 +96,7 @@ fn run(
             arrivals,
             work.messages,
             work.times,
+            work.length,
         );
     } else {
         passage::run(
@@ -108,6 +109,7 @@ fn run(
             octets,
             arrivals,
             work.kind == 3,
+            work.length,
             work.times,
         );
     }

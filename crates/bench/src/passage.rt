@@ -18,6 +18,7 @@ pub fn run(
     octets: &mut [u8; 52416],
     arrivals: &mut [u64; 1],
     host: bool,
+    length: usize,
     count: u64,
 ) {
     let mut message = letter(plan, origin(plan, host));
@@ -27,8 +28,9 @@ pub fn run(
     let mut left = 0;
     while 0 < rest {
         let many = if rest < 64 { rest } else { 64 };
+        let first = count - rest;
         let round = Round {
-            first: count - rest,
+            first,
             many,
             spread: true,
         };
@@ -44,6 +46,7 @@ pub fn run(
             host,
             round,
             &mut message,
+            length,
             &mut reports,
         );
         let gone = empty_all(plan, links, spans, rings, rows, octets);
@@ -72,6 +75,7 @@ fn come(
     host: bool,
     round: Round,
     message: &mut [u8; 273],
+    length: usize,
     reports: &mut [u64; 1024],
 ) -> u64 {
     if host {
@@ -86,6 +90,7 @@ fn come(
             arrivals,
             round,
             message,
+            length,
         )
     } else {
         take_in(
@@ -100,7 +105,7 @@ fn come(
             0,
             round,
             message,
-            40,
+            length,
             reports,
         )
     }

@@ -3,36 +3,48 @@ use numerals::decimal::Number;
 use numerals::decimal::decimal;
 use text::part::same;
 
-// 1 transit, 2 changeover, 3 host; 0 times where the arguments say nothing of that.
+// 1 transit, 2 changeover, 3 host; 0 times where the arguments say nothing of that. The length of the messages is an argument too: where
+// the compiler knew it, it would write out a copy of each octet.
 pub struct Work {
     pub kind: u8,
     pub messages: u64,
     pub times: u64,
+    pub length: usize,
 }
 
 pub fn asked() -> Work {
     let mut word = io::buffer();
-    let length = os::arg(1, &mut word);
-    let kind = kind_of(&word[..length]);
-    let count = os::arg_count();
-    if kind == 2 && count == 4 {
-        return Work {
-            kind,
-            messages: number(2, 126),
-            times: number(3, 1000000000),
-        };
-    }
-    if kind != 2 && count == 3 {
-        return Work {
-            kind,
-            messages: 0,
-            times: if kind == 0 { 0 } else { number(2, 1000000000) },
-        };
-    }
+    let size = os::arg(1, &mut word);
+    let kind = kind_of(&word[..size]);
+    let messages = if kind == 2 { number(2, 126) } else { 0 };
+    let length = if kind == 2 {
+        length_in(4)
+    } else {
+        length_in(3)
+    };
+    let times = if kind == 2 { times_in(3) } else { times_in(2) };
     Work {
-        kind: 0,
-        messages: 0,
-        times: 0,
+        kind,
+        messages,
+        times: if kind == 0 || length < 5 { 0 } else { times },
+        length,
+    }
+}
+
+fn times_in(argument: usize) -> u64 {
+    number(argument, 1000000000)
+}
+
+// The length in the last argument, 40 where there is none, 0 where there are more.
+fn length_in(argument: usize) -> usize {
+    let count = os::arg_count();
+    if count <= argument {
+        return 40;
+    }
+    if count == argument + 1 {
+        number(argument, 273) as usize
+    } else {
+        0
     }
 }
 

@@ -6,10 +6,10 @@ use Rattle.bench.proofs.failing.run.Statement.{statement}
 use Rattle.bench.proofs.failing.run.Tie as tie
 
 abbrev Inv-loop : tie.InvT-loop
-Inv-loop plan links₀ marks₀ spans₀ rings₀ rows₀ octets₀ arrivals₀ messages times moved₀ time₀ t15 t16 t17 links marks spans rings rows octets arrivals moved time = time ≤ times
+Inv-loop plan links₀ marks₀ spans₀ rings₀ rows₀ octets₀ arrivals₀ messages times length moved₀ time₀ t15 t16 t17 links marks spans rings rows octets arrivals moved time = time ≤ times
 
 abbrev μ-loop : tie.MeasureT-loop
-μ-loop plan links₀ marks₀ spans₀ rings₀ rows₀ octets₀ arrivals₀ messages times moved₀ time₀ t15 t16 t17 links marks spans rings rows octets arrivals moved time = times - time
+μ-loop plan links₀ marks₀ spans₀ rings₀ rows₀ octets₀ arrivals₀ messages times length moved₀ time₀ t15 t16 t17 links marks spans rings rows octets arrivals moved time = times - time
 
 loop-holds : tie.Need-loop-holds Inv-loop μ-loop
 loop-holds c = search needs

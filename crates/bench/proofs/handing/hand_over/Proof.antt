@@ -6,10 +6,10 @@ use Rattle.bench.proofs.handing.hand_over.Statement.{statement}
 use Rattle.bench.proofs.handing.hand_over.Tie as tie
 
 abbrev Inv-loop : tie.InvT-loop
-Inv-loop plan links marks spans₀ rings₀ rows₀ octets₀ arrivals₀ round message₀ queued₀ number₀ rest₀ spans rings rows octets arrivals message queued number rest = rest ≤ round .many
+Inv-loop plan links marks spans₀ rings₀ rows₀ octets₀ arrivals₀ round message₀ length queued₀ number₀ rest₀ spans rings rows octets arrivals message queued number rest = rest ≤ round .many
 
 abbrev μ-loop : tie.MeasureT-loop
-μ-loop plan links marks spans₀ rings₀ rows₀ octets₀ arrivals₀ round message₀ queued₀ number₀ rest₀ spans rings rows octets arrivals message queued number rest = rest
+μ-loop plan links marks spans₀ rings₀ rows₀ octets₀ arrivals₀ round message₀ length queued₀ number₀ rest₀ spans rings rows octets arrivals message queued number rest = rest
 
 loop-holds : tie.Need-loop-holds Inv-loop μ-loop
 loop-holds c = search needs

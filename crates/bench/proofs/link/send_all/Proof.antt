@@ -1,18 +1,23 @@
 -- `bench::link::send_all` is safe and ends: at most 127 messages leave.
 -- Assumes nothing.
 use borrow.Author.Needs.{needs}
+use mathlib.Core.Path.{_≡_}
 use Prim.Native.Nat.{_-_, _≤_}
+use lib.ListN.{length}
 use Rattle.bench.proofs.link.send_all.Statement.{statement}
 use Rattle.bench.proofs.link.send_all.Tie as tie
 
 abbrev Inv-loop : tie.InvT-loop
-Inv-loop plan links₀ spans rings rows octets link out₀ many₀ last₀ links out many last = many ≤ 127
+Inv-loop plan links₀ spans rings rows octets link out₀ many₀ last₀ links out many last = (many ≤ 127) × (length out ≡ 273)
 
 abbrev μ-loop : tie.MeasureT-loop
 μ-loop plan links₀ spans rings rows octets link out₀ many₀ last₀ links out many last = 127 - many
 
 loop-holds : tie.Need-loop-holds Inv-loop μ-loop
 loop-holds c = search needs
+
+slice-aggregate-send : tie.Need-slice-aggregate-send Inv-loop μ-loop
+slice-aggregate-send c = search needs
 
 send-requires : tie.Need-send-requires Inv-loop μ-loop
 send-requires c κs = search needs
@@ -39,6 +44,7 @@ send-all-spec =
     Inv-loop
     μ-loop
     loop-holds
+    slice-aggregate-send
     send-requires
     add-many
     loop-less

@@ -8,10 +8,10 @@ use Rattle.bench.proofs.passage.run.Statement.{statement}
 use Rattle.bench.proofs.passage.run.Tie as tie
 
 abbrev Inv-loop : tie.InvT-loop
-Inv-loop plan links₀ marks₀ spans₀ rings₀ rows₀ octets₀ arrivals₀ host count message₀ reports₀ rest₀ queued₀ left₀ links marks spans rings rows octets arrivals message reports rest queued left = rest ≤ count
+Inv-loop plan links₀ marks₀ spans₀ rings₀ rows₀ octets₀ arrivals₀ host length count message₀ reports₀ rest₀ queued₀ left₀ links marks spans rings rows octets arrivals message reports rest queued left = rest ≤ count
 
 abbrev μ-loop : tie.MeasureT-loop
-μ-loop plan links₀ marks₀ spans₀ rings₀ rows₀ octets₀ arrivals₀ host count message₀ reports₀ rest₀ queued₀ left₀ links marks spans rings rows octets arrivals message reports rest queued left = rest
+μ-loop plan links₀ marks₀ spans₀ rings₀ rows₀ octets₀ arrivals₀ host length count message₀ reports₀ rest₀ queued₀ left₀ links marks spans rings rows octets arrivals message reports rest queued left = rest
 
 -- a turn has at least one message, and no more than are left
 some : (c : tie.Joined1 Inv-loop μ-loop) → (c .if1 .many ≤ c .before .before .loop .rest) × (0 < c .if1 .many)
@@ -35,8 +35,8 @@ letter-requires c κs = search needs
 loop-holds : tie.Need-loop-holds Inv-loop μ-loop
 loop-holds c = search needs
 
-sub-t24 : tie.Need-sub-t24 Inv-loop μ-loop
-sub-t24 c = search needs
+sub-first : tie.Need-sub-first Inv-loop μ-loop
+sub-first c = search needs
 
 come-requires : tie.Need-come-requires Inv-loop μ-loop
 come-requires c κs = search needs
@@ -74,7 +74,7 @@ run-spec =
     origin-requires
     letter-requires
     loop-holds
-    sub-t24
+    sub-first
     come-requires
     empty-all-requires
     wrapping-add-u64-requires
