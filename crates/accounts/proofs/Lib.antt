@@ -1,0 +1,10 @@
+pub mod Even
+pub mod EvenMaking
+pub mod EvenEnding
+pub mod EvenOrders
+pub mod Small
+pub mod EvenPassing
+pub mod EvenReceiving
+pub mod EvenEvents
+pub mod EvenCalls
+pub mod OnePlace

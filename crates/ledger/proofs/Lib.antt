@@ -1,0 +1,10 @@
+pub mod Rings
+pub mod Balance
+pub mod FreeKinds
+pub mod Free
+pub mod Joined
+pub mod Behind
+pub mod Told
+pub mod Gone
+pub mod Moving
+pub mod Ended
