@@ -37,8 +37,17 @@ use Rattle.accounts.specs.Gone.{retiredByStep, retiredByMessage}
 use Rattle.accounts.proofs.Even.{KindsIn, Even, even-none, even-links, EvenBy, untold, undropped, taken-even, judged-even}
 use Rattle.accounts.proofs.Small.{Small, link-small}
 use Rattle.accounts.proofs.EvenEnding.{sent-queued}
-use Rattle.accounts.proofs.EvenOrders.{Bears, carried-even, coo-bears, eco-bears, coa-bears, eca-bears, cbd-bears, rst-bears}
+use Rattle.accounts.proofs.Bearing.{asked-bears}
+use Rattle.accounts.proofs.EvenOrders.{carried-even}
 use Rattle.accounts.proofs.EvenPassing.{passed-even}
+
+-- where a message is looked at the report area has its room
+pub room-there : (plan : Plan) (a : Areas) (arriving fsn : ℕ) → replyOf plan (a .links) arriving fsn (a .reports) ≡ 0
+    → short (a .reports) ≡ false
+unfolding replyOf
+room-there plan a arriving fsn done =
+    let first = none-applies 0 (leb 32 arriving || (leb 128 fsn || short (a .reports))) _ done .0 in
+    both-false (leb 128 fsn) (short (a .reports)) (both-false (leb 32 arriving) (leb 128 fsn || short (a .reports)) first .1) .1
 
 module _ (test : ℕ → Bool) (a : Areas) (octets : List ℕ) (regular : RegularIn a octets) (long : length (a .arrivals) ≡ 1)
     (plan : Plan) where
@@ -78,26 +87,23 @@ module _ (test : ℕ → Bool) (a : Areas) (octets : List ℕ) (regular : Regula
       queued : (link : ℕ) → link < 32 → recordAt (a .links) link .sent ≤ countOf (a .spans) link
       queued link h = sent-queued (recordAt (a .links) link) (countOf (a .spans) link) (regular .each-link link h)
 
-      carries-out : (message : Message)
-          → Bears (countOf (a .spans)) (asked plan (a .links) (a .marks) arriving fsn point slc message)
-          → EvenBy test a (carriedOut plan arriving fsn point slc message a) (retired message)
-      carries-out message bears =
+      carries-out : (message : Message) → EvenBy test a (carriedOut plan arriving fsn point slc message a) (retired message)
+      carries-out message =
           carried-even test a octets regular long plan (asked plan (a .links) (a .marks) arriving fsn point slc message) arriving fsn room
-          bears
+          (asked-bears (countOf (a .spans)) plan (a .links) (a .marks) queued arriving fsn point slc message)
 
       -- each of the nine management messages
       managed-even : (message : Message) → EvenBy test a (managed plan arriving fsn point slc message a) (retired message)
       unfolding managed asked retiredByStep
-      managed-even (COO f) = carries-out (COO f) (coo-bears (countOf (a .spans)) plan (a .links) (a .marks) queued arriving fsn point slc f)
-      managed-even (COA f) = carries-out (COA f) (coa-bears (countOf (a .spans)) plan (a .links) (a .marks) queued arriving fsn point slc f)
-      managed-even (CBD code) =
-          carries-out (CBD code) (cbd-bears (countOf (a .spans)) plan (a .links) (a .marks) queued arriving fsn point slc code)
+      managed-even (COO f) = carries-out (COO f)
+      managed-even (COA f) = carries-out (COA f)
+      managed-even (CBD code) = carries-out (CBD code)
       managed-even (CBA code) = answered-even point slc code
-      managed-even ECO = carries-out ECO (eco-bears (countOf (a .spans)) plan (a .links) (a .marks) queued arriving fsn point slc)
-      managed-even ECA = carries-out ECA (eca-bears (countOf (a .spans)) plan (a .links) (a .marks) queued arriving fsn point slc)
+      managed-even ECO = carries-out ECO
+      managed-even ECA = carries-out ECA
       managed-even (TFP x) = transferred-even point x true
       managed-even (TFA x) = transferred-even point x false
-      managed-even (RST x) = carries-out (RST x) (rst-bears (countOf (a .spans)) plan (a .links) (a .marks) queued arriving fsn point slc x)
+      managed-even (RST x) = carries-out (RST x)
 
     -- whatever it is
     came-even : short (a .reports) ≡ false → KindsIn test a → (size : ℕ) (came : Came) → Small came size
@@ -109,13 +115,6 @@ module _ (test : ℕ → Bool) (a : Areas) (octets : List ℕ) (regular : Regula
     came-even room kinds size (Managed order) small = managed-even room (order .point) (order .slc) (order .message)
     came-even room kinds size (Passed label) small = passed-even test a octets regular long kinds plan arriving fsn label size small
 
-    -- where it is looked at the report area has its room
-    room-there : replyOf plan (a .links) arriving fsn (a .reports) ≡ 0 → short (a .reports) ≡ false
-    unfolding replyOf
-    room-there done =
-        let first = none-applies 0 (leb 32 arriving || (leb 128 fsn || short (a .reports))) _ done .0 in
-        both-false (leb 128 fsn) (short (a .reports)) (both-false (leb 32 arriving) (leb 128 fsn || short (a .reports)) first .1) .1
-
     pub received-even : KindsIn test a → (message : List ℕ)
         → EvenBy test a (received plan arriving fsn message a)
         (ifDone (replyOf plan (a .links) arriving fsn (a .reports)) (retiredByMessage plan a arriving fsn (fromLink plan message)) [])
@@ -124,4 +123,4 @@ module _ (test : ℕ → Bool) (a : Areas) (octets : List ℕ) (regular : Regula
         judged-even test a long (replyOf plan (a .links) arriving fsn (a .reports))
         (receivedBy plan arriving fsn (length message) (fromLink plan message) a)
         (retiredByMessage plan a arriving fsn (fromLink plan message))
-        (λ done. came-even (room-there done) kinds (length message) (fromLink plan message) (link-small plan message))
+        (λ done. came-even (room-there plan a arriving fsn done) kinds (length message) (fromLink plan message) (link-small plan message))

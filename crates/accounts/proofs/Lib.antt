@@ -1,6 +1,9 @@
 pub mod Even
 pub mod EvenMaking
 pub mod EvenEnding
+pub mod Never
+pub mod Answers
+pub mod Bearing
 pub mod EvenOrders
 pub mod Small
 pub mod EvenPassing
@@ -8,3 +11,5 @@ pub mod EvenReceiving
 pub mod EvenEvents
 pub mod EvenCalls
 pub mod OnePlace
+pub mod Endings
+pub mod Starting

@@ -2,7 +2,7 @@
 -- Assumes nothing.
 use mathlib.Core.Path.{_≡_, refl, sym, ap, ap₂, _∙_}
 use mathlib.Core.Bool.{true, false}
-use mathlib.Core.List.{List, [], _∷_, _++_, map}
+use mathlib.Core.List.{List, [], _∷_, _++_, map, append-nil}
 use Prim.Native.Nat.{ℕ, zero, suc, _≤_, _<_}
 use native.Mathlib.Omega.{arith}
 use lib.Dec.{eqb}
@@ -79,23 +79,6 @@ module _
       ∙ ap (map (arrivalOf after)) (put-other taken (queues .rings) ring slot link apart)
       ∙ before link l
 
-  -- so the first messages of each are
-  pub joined-first : (link many : ℕ) → link < 33 → many ≤ countOf (queues .spans) link
-      → take many (numbers after (moved queues free ring) link) ≡ take many (numbers rows queues link)
-  unfolding numbers
-  joined-first link many l fits =
-      let size : length (numbers rows queues link) ≡ countOf (queues .spans) link =
-      length-map (queue (queues .spans) (queues .rings) link) (arrivalOf rows) ∙ queue-length (queues .spans) (queues .rings) link
-      in
-      alike link ring
-      (λ same.
-      let there = ap (λ (r : ℕ). numbers after (moved queues free ring) r) same ∙ joined-there in
-      ap (take many) there
-      ∙ take-append-le many (numbers rows queues ring) (arrivalOf after slot ∷ [])
-      (omega (arith, size, ap (λ (r : ℕ). length (numbers rows queues r)) same))
-      ∙ ap (λ (r : ℕ). take many (numbers rows queues r)) (sym same))
-      (λ apart. ap (take many) (joined-other link l apart))
-
 -- of a management message
 module _
     (rows octets : List ℕ)
@@ -105,16 +88,59 @@ module _
     (ring : ℕ)
     (h : ring < 33)
     (heading point slc field : ℕ) where
-  pub management-first : (link many : ℕ) → link < 33 → many ≤ countOf (queues .spans) link
-      → take many (numbers (managementRow queues arrivals rows heading point slc field) (managementQueues queues arrivals ring) link)
-      ≡ take many (numbers rows queues link)
+  abbrev after : List ℕ
+  after = managementRow queues arrivals rows heading point slc field
+
+  abbrev filled : Queues
+  filled = managementQueues queues arrivals ring
+
+  module _ (done : eqb (managementReply (queues .spans) arrivals) 0 ≡ true) where
+    -- the slot that it takes
+    taken-found : headOf queues 34 .found ≡ true
+    taken-found = management-found (λ n. true) rows octets queues sound arrivals (eqb-true (managementReply (queues .spans) arrivals) 0 done)
+
+    abbrev written : List ℕ
+    written = withSlot rows (headOf queues 34 .slot) (Message.managementRow (nextOf arrivals) heading point slc field)
+
+    other-numbers : (other : ℕ) → (other ≡ headOf queues 34 .slot → ⊥) → arrivalOf written other ≡ arrivalOf rows other
+    other-numbers = arrival-other rows (headOf queues 34 .slot) (Message.managementRow (nextOf arrivals) heading point slc field)
+
+  -- a queue that it doesn't join is as it was
+  pub management-other : (link : ℕ) → link < 33 → (link ≡ ring → ⊥) → numbers after filled link ≡ numbers rows queues link
   unfolding managementQueues managementRow managementRows
-  management-first link many l fits =
-      let free : ℕ = headOf queues 34 .slot in
-      let row : Slot = Message.managementRow (nextOf arrivals) heading point slc field in
+  management-other link l apart =
       cases (eqb (managementReply (queues .spans) arrivals) 0)
       (λ e.
-      let found = management-found (λ n. true) rows octets queues sound arrivals (eqb-true (managementReply (queues .spans) arrivals) 0 e) in
       simp e
-      (joined-first rows octets queues sound 34 found (omega arith) (withSlot rows free row) (arrival-other rows free row) ring h link many l fits))
+      (joined-other rows octets queues sound 34 (taken-found e) (omega arith) (written e) (other-numbers e) ring h link l apart))
       (λ e. simp e)
+
+  -- and each has what it had, with what is new behind it
+  pub management-joined : (link : ℕ) → link < 33 → (new : List ℕ) × (numbers after filled link ≡ numbers rows queues link ++ new)
+  unfolding managementQueues managementRow managementRows
+  management-joined link l =
+      cases (eqb (managementReply (queues .spans) arrivals) 0)
+      (λ e.
+      alike link ring
+      (λ same.
+      let there = joined-there rows octets queues sound 34 (taken-found e) (omega arith) (written e) (other-numbers e) ring h in
+      let new : List ℕ = arrivalOf (written e) (headOf queues 34 .slot) ∷ [] in (
+        new,
+        simp e
+            (ap (λ (r : ℕ). numbers (written e) (moved queues 34 ring) r) same
+            ∙ there
+            ∙ ap (λ (r : ℕ). numbers rows queues r ++ new) (sym same)),
+      ))
+      (λ apart. ([], management-other link l apart ∙ sym (append-nil (numbers rows queues link)))))
+      (λ e. ([], simp (e, append-nil (numbers rows queues link))))
+
+  -- so the first messages of each are the same
+  pub management-first : (link many : ℕ) → link < 33 → many ≤ countOf (queues .spans) link
+      → take many (numbers after filled link) ≡ take many (numbers rows queues link)
+  unfolding numbers
+  management-first link many l fits =
+      let size : length (numbers rows queues link) ≡ countOf (queues .spans) link =
+      length-map (queue (queues .spans) (queues .rings) link) (arrivalOf rows) ∙ queue-length (queues .spans) (queues .rings) link
+      in
+      let all = management-joined link l in
+      ap (take many) (all .1) ∙ take-append-le many (numbers rows queues link) (all .0) (omega (arith, size))

@@ -3,11 +3,11 @@
 use mathlib.Core.Path.{_≡_, refl, ap, ap₂, _∙_}
 use mathlib.Core.Bool.{Bool, false, not, _&&_}
 use mathlib.Core.List.{List, [], _∷_, _++_}
-use Prim.Native.Nat.{ℕ, zero, suc, _+_, _*_, _≤_, _<_}
+use Prim.Native.Nat.{ℕ, zero, suc, _+_, _*_, _≤_, _<_, _/_}
 use native.Mathlib.Omega.{arith}
 use native.Mathlib.Numerals.{add-one}
 use lib.Dec.{ltb}
-use lib.ListN.{getD, set, length-set}
+use lib.ListN.{length, getD, set, length-set}
 use lib.Seq.{sets, getD-set-same, getD-set-other, length-sets}
 use borrow.Author.Tests.{lt-ltb, le-ltb, ltb-true}
 use borrow.Table.Steps.{cases}
@@ -92,12 +92,15 @@ module _ (written : Log) (kind number : ℕ) where
   unfolding told
   told-count free = simp (lt-ltb _ _ free)
 
-  pub told-room : room (told written kind number .area) ≡ room (written .area)
+  pub told-long : length (told written kind number .area) ≡ length (written .area)
   unfolding told
-  told-room =
+  told-long =
       cases (ltb (written .count) (room (written .area)))
       (λ e. simp (e, length-sets (written .area) (2 * written .count) (kind ∷ number ∷ [])))
       (λ e. simp e)
+
+  pub told-room : room (told written kind number .area) ≡ room (written .area)
+  told-room = ap (λ (words : ℕ). words / 2) told-long
 
   -- a drop is one more of the drops
   pub told-drop : kind < pause → written .count < room (written .area) → (test : ℕ → Bool)

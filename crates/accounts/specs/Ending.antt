@@ -1,0 +1,113 @@
+-- When a call takes a link out of service: which link, how its queue is cut, and from which areas: "The link goes out and its timers
+-- stop after the COA or ECA is queued, which never uses this link, and before anything moves."
+use Prim.Native.Nat.{ℕ, _<_}
+use mathlib.Core.Path.{_≡_}
+use mathlib.Core.Bool.{Bool, false, _&&_}
+use mathlib.Core.List.{List, _++_}
+use lib.Dec.{eqb}
+use Rattle.plan.specs.declared.data.Plan.{Plan}
+use Rattle.rows.specs.Rows.{recordAt}
+use Rattle.replies.specs.Reply.{ifDone}
+use Rattle.replies.specs.Areas.{Areas}
+use Rattle.queueing.specs.Leave.{State, state}
+use Rattle.numbers.specs.Taken.{withTaken}
+use Rattle.ending.specs.declared.Cut.{Cut}
+use Rattle.ending.specs.End.{cutNone, cutUnknown}
+use Rattle.changeover.specs.Fail as Fail
+use Rattle.changeover.specs.Timer as Timer
+use Rattle.orders.specs.declared.step.Step.{Step}
+use Rattle.orders.specs.Carry.{answerReply, withAnswer}
+use Rattle.managing.specs.Managed.{asked}
+use Rattle.discrimination.specs.declared.Came.{Came}
+use Rattle.discrimination.specs.declared.Came.the-variants.{Malformed, Foreign, Delivered, Managed, Passed}
+use Rattle.discrimination.specs.Discrimination.{fromLink}
+use Rattle.receiving.specs.Receive as Receive
+use Rattle.node.specs.declared.call.Event.{Event}
+use Rattle.node.specs.declared.call.Event.the-variants.{IntoService, Failure, Send, Acknowledgement, Received, FromHost, T1, T2, T3, T4, T6, T8, T10, RouteList}
+use Rattle.leaving.specs.Going.{Ended}
+use Rattle.accounts.specs.Gone.{queueOf}
+
+pub record Ending : Type 0 where
+  pub ends : Bool
+  pub from : Areas
+  pub link : ℕ
+  pub parts : Cut
+
+-- no link goes out
+abbrev pub noEnding : Areas → Ending
+noEnding a = record { ends = false; from = a; link = 32; parts = cutNone }
+
+-- "T1 or T2 expiry": of a link whose timer runs
+unfoldable pub endingByTimer : Plan → Areas → ℕ → ℕ → Ending
+endingByTimer plan a link timer =
+    record {
+      ends = eqb (Timer.replyOf plan (a .links) link timer (a .reports)) 0;
+      from = a;
+      link = link;
+      parts = cutUnknown (recordAt (a .links) link);
+    }
+
+-- "Failure of a waiting link: out, its timers stop, its queue moves at once."
+unfoldable pub endingByFailure : Plan → Areas → ℕ → Ending
+endingByFailure plan a link =
+    record {
+      ends = eqb (Fail.replyOf plan (a .links) link (a .reports)) 0 && eqb (Fail.stateAt (a .links) link) 1;
+      from = a;
+      link = link;
+      parts = cutNone;
+    }
+
+-- COO, COA, ECO, ECA: by the step that the message asks, with its answer queued and the message taken
+unfoldable pub endingByStep : Plan → Areas → ℕ → ℕ → Step → Ending
+endingByStep plan a arriving fsn step =
+    record {
+      ends = eqb (step .reply) 0 && (eqb (answerReply plan step a) 0 && step .ends);
+      from = withTaken arriving fsn (withAnswer plan step a);
+      link = step .link;
+      parts = step .parts;
+    }
+
+-- by what a message from a link is
+unfoldable pub endingByMessage : Plan → Areas → ℕ → ℕ → Came → Ending
+endingByMessage plan a arriving fsn Malformed = noEnding a
+endingByMessage plan a arriving fsn Foreign = noEnding a
+endingByMessage plan a arriving fsn Delivered = noEnding a
+endingByMessage plan a arriving fsn (Managed order) =
+    endingByStep plan a arriving fsn (asked plan (a .links) (a .marks) arriving fsn (order .point) (order .slc) (order .message))
+endingByMessage plan a arriving fsn (Passed label) = noEnding a
+
+-- by every event
+unfoldable pub endingOf : Plan → Areas → List ℕ → Event → Ending
+endingOf plan a message (Received link fsn) =
+    ifDone (Receive.replyOf plan (a .links) link fsn (a .reports)) (endingByMessage plan a link fsn (fromLink plan message)) (noEnding a)
+endingOf plan a message (Failure link) = endingByFailure plan a link
+endingOf plan a message (T1 link) = endingByTimer plan a link 1
+endingOf plan a message (T2 link) = endingByTimer plan a link 2
+endingOf plan a message (IntoService link) = noEnding a
+endingOf plan a message (Send link) = noEnding a
+endingOf plan a message (Acknowledgement link b) = noEnding a
+endingOf plan a message FromHost = noEnding a
+endingOf plan a message (T3 link) = noEnding a
+endingOf plan a message (T4 link) = noEnding a
+endingOf plan a message (T6 x) = noEnding a
+endingOf plan a message (T8 x) = noEnding a
+endingOf plan a message (T10 x set) = noEnding a
+endingOf plan a message RouteList = noEnding a
+
+-- the queues and the reports of areas, so many records written
+abbrev pub stateOf : Areas → ℕ → State
+stateOf a reports = state (a .spans) (a .rings) (a .reports) reports
+
+-- the queue is cut, and its rest moved, exactly as `Ended` says, and nothing else of what is held changes
+pub record Exactly (plan : Plan) (ending : Ending) (after : Areas) (reports : ℕ) : Type 0 where
+  pub ended : Ended plan (ending .from .links) (ending .from .marks) (ending .from .rows) (ending .link) (ending .parts)
+      (stateOf (ending .from) 0)
+      (stateOf after reports)
+  pub rows-same : after .rows ≡ ending .from .rows
+  pub arrivals-same : after .arrivals ≡ ending .from .arrivals
+
+-- before it the link's own queue is as it was, since the answer never uses this link, and every other has at most the answer behind what
+-- it had: "COO is answered with COA, queued before anything moves."
+pub record Starts (a : Areas) (ending : Ending) : Type 0 where
+  pub own : queueOf (ending .from) (ending .link) ≡ queueOf a (ending .link)
+  pub others : (other : ℕ) → other < 33 → (new : List ℕ) × (queueOf (ending .from) other ≡ queueOf a other ++ new)
