@@ -1,10 +1,8 @@
 -- The access of destinations, and the report of its changes: "pause or resume, by code, of each destination whose access changed".
-use Prim.Native.Nat.{ℕ, zero, suc, _+_, _<_}
-use mathlib.Core.Path.{_≡_}
-use mathlib.Core.Bool.{Bool, false, cond, not, _&&_}
-use mathlib.Core.List.{List}
+use Prim.Native.Nat.{ℕ, zero, suc, _+_}
+use mathlib.Core.Bool.{Bool, cond, not, _&&_}
+use mathlib.Core.List.{List, [], _∷_}
 use lib.Dec.{ltb}
-use lib.ListN.{getD}
 use Rattle.plan.specs.declared.data.Plan.{Plan}
 use Rattle.plan.specs.Data.{destinationAt}
 use Rattle.plan.specs.Find.{given}
@@ -16,10 +14,15 @@ use Rattle.access.specs.Way.{currentLink}
 unfoldable pub isAccessible : Plan → List ℕ → List ℕ → ℕ → Bool
 isAccessible plan links marks destination = ltb (currentLink plan links marks destination 0) none
 
--- a table that says of each given destination whether it is accessible
-abbrev pub Accesses : Plan → List ℕ → List ℕ → List Bool → Type 0
-Accesses plan links marks table =
-    (destination : ℕ) → destination < given plan → getD table destination false ≡ isAccessible plan links marks destination
+-- a table of so many places from one on
+unfoldable pub tableFrom : (ℕ → Bool) → ℕ → ℕ → List Bool
+tableFrom says place zero = []
+tableFrom says place (suc more) = says place ∷ tableFrom says (suc place) more
+
+-- which of 64 destinations are accessible; one that isn't given is not
+abbrev pub accessesOf : Plan → List ℕ → List ℕ → List Bool
+accessesOf plan links marks =
+    tableFrom (λ (destination : ℕ). ltb destination (given plan) && isAccessible plan links marks destination) 0 64
 
 -- the code of a destination
 unfoldable pub codeOf : Plan → ℕ → ℕ

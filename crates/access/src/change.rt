@@ -30,7 +30,7 @@ pub fn accessible(plan: Plan, links: &[u32; 256], marks: &[u32; 512], destinatio
 
 // Which of the given destinations are accessible.
 pub fn accesses(plan: Plan, links: &[u32; 256], marks: &[u32; 512]) -> [bool; 64]
-    ensures { λ r. ⌜ Change.Accesses plan (now (links .entry)) (now (marks .entry)) r ⌝ }
+    ensures { λ r. ⌜ r ≡ Change.accessesOf plan (now (links .entry)) (now (marks .entry)) ⌝ }
 {
     let mut each = [false; 64];
     let all = given_of(plan);

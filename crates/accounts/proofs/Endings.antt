@@ -37,7 +37,7 @@ use Rattle.node.specs.declared.call.Event.{Event}
 use Rattle.node.specs.declared.call.Event.the-variants.{IntoService, Failure, Send, Acknowledgement, Received, FromHost, T1, T2, T3, T4, T6, T8, T10, RouteList}
 use Rattle.node.specs.Memory.{Memory}
 use Rattle.node.specs.Call.{receives, callOf}
-use Rattle.leaving.proofs.Ended.{ended-exactly}
+use Rattle.leaving.proofs.Ended.{now-out, ended-exactly}
 use Rattle.promises.proofs.Outcomes.{RegularIn, by-test, if-both-done, rows-passed, link-within}
 use Rattle.promises.proofs.KeepsOrders.{with-taken-regular}
 use Rattle.accounts.proofs.Answers.{answer-regular, answer-reports}
@@ -65,6 +65,7 @@ module _ (plan : Plan) where
           ended =
               ended-exactly plan (a .links) (a .marks) (a .rows) octets link h parts (stateOf a 0) (regular .store)
               (omega (arith, ltb-false (room (a .reports)) 512 wide, regular .store .short link, given-few plan));
+          goes-out = now-out (a .links) link h;
           rows-same = refl;
           arrivals-same = refl;
         }

@@ -32,7 +32,7 @@ use Rattle.accounts.proofs.Even.{heldIn}
 use Rattle.accounts.proofs.EvenCalls.{call-even}
 
 -- a tally of two lists, one behind the other
-tally-on : (test : ℕ → Bool) (first next : List ℕ) → tally test (first ++ next) ≡ tally test first + tally test next
+pub tally-on : (test : ℕ → Bool) (first next : List ℕ) → tally test (first ++ next) ≡ tally test first + tally test next
 unfolding tally
 tally-on test [] next = omega arith
 tally-on test (number ∷ later) next = omega (arith, tally-on test later next)
@@ -111,7 +111,7 @@ module _ (m : Memory) (whole : Whole m) (one : length (m .areas .arrivals) ≡ 1
   none-given : nextIn (fresh m) ≡ 0
   none-given = getD-set-same (a .arrivals) 0 0 0 (omega (arith, one))
 
-  fresh-accounted : Accounted (fresh m) nothingGone
+  pub fresh-accounted : Accounted (fresh m) nothingGone
   unfolding tally sum
   fresh-accounted =
       record {

@@ -103,6 +103,8 @@ pub record Exactly (plan : Plan) (ending : Ending) (after : Areas) (reports : �
   pub ended : Ended plan (ending .from .links) (ending .from .marks) (ending .from .rows) (ending .link) (ending .parts)
       (stateOf (ending .from) 0)
       (stateOf after reports)
+  -- the link is out, and what is known of the held messages stays
+  pub goes-out : recordAt (after .links) (ending .link) .state ≡ 0
   pub rows-same : after .rows ≡ ending .from .rows
   pub arrivals-same : after .arrivals ≡ ending .from .arrivals
 

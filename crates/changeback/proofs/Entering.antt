@@ -17,7 +17,8 @@ use Rattle.replies.specs.Areas.{Areas, areas, Outcome, outcome, Leaves}
 use Rattle.replies.proofs.Judging.{is-refused, is-done}
 use Rattle.replies.proofs.Leaving.{leaves}
 use Rattle.reports.specs.Report.{Log, log}
-use Rattle.access.specs.Change.{Accesses, isAccessible, changesTold}
+use Rattle.access.specs.Change.{accessesOf, isAccessible, changesTold}
+use Rattle.access.proofs.Filled.{says-each}
 use Rattle.access.proofs.Same.{told-same}
 use Rattle.making.specs.Make.{Held, held, heldIn}
 use Rattle.changeback.specs.declared.pairs.Sources.{Sources}
@@ -86,7 +87,7 @@ module _ (plan : Plan) (a : Areas) (link : ℕ) where
       -- done: the link has its record, and what has access now is reported
       module _ (all-held : lacking ≤ 0) (known : LinkRecord) (comes : known ≡ comesAs from) (links : List ℕ)
           (stored : links ≡ withRecord (a .links) link known) (table : List Bool)
-          (accessed : Accesses plan (a .links) (a .marks) table) where
+          (accessed : table ≡ accessesOf plan (a .links) (a .marks)) where
         links-are : links ≡ linksIn plan (a .links) (a .marks) link
         unfolding linksIn
         links-are =
@@ -100,7 +101,7 @@ module _ (plan : Plan) (a : Areas) (link : ℕ) where
         told-is =
             told-same plan (λ (d : ℕ). getD table d false) (isAccessible plan (a .links) (a .marks))
             (isAccessible plan links (a .marks)) (isAccessible plan (linksIn plan (a .links) (a .marks) link) (a .marks))
-            (log (a .reports) 0) accessed
+            (log (a .reports) 0) (says-each plan (a .links) (a .marks) table accessed)
             (λ d h. ap (λ (l : List ℕ). isAccessible plan l (a .marks) d) links-are)
 
         pub comes-in : (answer : Answer) (count : ℕ) (reports : List ℕ)

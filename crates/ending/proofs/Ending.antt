@@ -10,7 +10,8 @@ use Rattle.plan.specs.declared.data.Plan.{Plan}
 use Rattle.counting.specs.Counting.{inRange, distance}
 use Rattle.rows.specs.declared.link.LinkRecord.{LinkRecord}
 use Rattle.rows.specs.Rows.{recordAt, withRecord}
-use Rattle.access.specs.Change.{isAccessible, Accesses, changesTold}
+use Rattle.access.specs.Change.{isAccessible, accessesOf, changesTold}
+use Rattle.access.proofs.Filled.{says-each}
 use Rattle.access.proofs.Same.{told-same}
 use Rattle.queueing.specs.Head.{Queues, both}
 use Rattle.queueing.specs.Leave.{State, state, retired, dropped}
@@ -71,7 +72,7 @@ module _
     (after : List ℕ)
     (out : after ≡ linksOut links link)
     (table : List Bool)
-    (noted : Accesses plan links marks table)
+    (noted : table ≡ accessesOf plan links marks)
     (spans rings area : List ℕ)
     (count : ℕ)
     (are : AllAre spans rings area count (cleared plan after marks rows link parts now)) where
@@ -92,7 +93,7 @@ module _
       let cleared-now = state spans rings area count in
       ap (λ (w : _). record { queues = both spans rings; log = w })
       (told-same plan (λ (d : ℕ). getD table d false) (isAccessible plan links marks) (isAccessible plan after marks)
-      (isAccessible plan after marks) (cleared-now .log) noted (λ d h. refl))
+      (isAccessible plan after marks) (cleared-now .log) (says-each plan links marks table noted) (λ d h. refl))
       ∙ ap (λ (l : List ℕ). tells (isAccessible plan links marks) (isAccessible plan l marks) cleared-now) out
       ∙ ap (tells (isAccessible plan links marks) (isAccessible plan (linksOut links link) marks)) clear-all
 

@@ -49,7 +49,7 @@ state-zero links link h known is =
     simp (lt-ltb link 32 h, add-zero, is) (ap (λ (w : ℕ). w % 4) zero-there)
 
 -- and a link that goes out is out
-now-out : (links : List ℕ) (link : ℕ) → link < 32 → recordAt (linksOut links link) link .state ≡ 0
+pub now-out : (links : List ℕ) (link : ℕ) → link < 32 → recordAt (linksOut links link) link .state ≡ 0
 unfolding linksOut
 now-out links link h = state-zero links link h (outOf (recordAt links link)) refl
 

@@ -16,15 +16,15 @@ use Rattle.rows.specs.Rows.{withSlot}
 use Rattle.rows.specs.declared.slot.Slot.{Slot}
 use Rattle.rings.specs.Ring.{countOf, queue, spansTaken, spansPut, ringsPut}
 use Rattle.rings.proofs.Queues.{queue-length, taken-other, put-queue, put-other}
-use Rattle.slots.specs.Message.{managementRows}
+use Rattle.slots.specs.Message.{fits, userRows, managementRows}
 use Rattle.slots.specs.Message as Message
 use Rattle.store.specs.Sound.{Sound}
 use Rattle.queueing.specs.Head.{Queues, both, headOf, moved}
-use Rattle.queueing.specs.Queue.{nextOf, managementReply, managementQueues, managementRow}
+use Rattle.queueing.specs.Queue.{nextOf, userReply, userQueues, userRow, managementReply, managementQueues, managementRow}
 use Rattle.ledger.specs.Held.{arrivalOf, numbers}
 use Rattle.ledger.proofs.Balance.{moved-some, head-long, head-room}
 use Rattle.ledger.proofs.Free.{slot-apart}
-use Rattle.ledger.proofs.Joined.{arrival-other, management-found}
+use Rattle.ledger.proofs.Joined.{arrival-other, user-other, user-large, user-found, management-found}
 
 -- slots with the same numbers in two areas
 map-same : (f g : ℕ → ℕ) (slots : List ℕ) → ((i : ℕ) → i < length slots → f (getD slots i 0) ≡ g (getD slots i 0))
@@ -144,3 +144,48 @@ module _
       in
       let all = management-joined link l in
       ap (take many) (all .1) ∙ take-append-le many (numbers rows queues link) (all .0) (omega (arith, size))
+
+-- of a user message
+module _
+    (rows octets : List ℕ)
+    (queues : Queues)
+    (sound : Sound (queues .spans) (queues .rings) rows octets)
+    (arrivals : List ℕ)
+    (ring : ℕ)
+    (h : ring < 33)
+    (point sls size : ℕ) where
+  abbrev free : ℕ
+  free = headOf queues 33 .slot
+
+  abbrev placed : List ℕ
+  placed = userRows rows free (nextOf arrivals) point sls size
+
+  -- a row that is written, or one that doesn't fit, leaves the numbers of the other slots
+  placed-other : (other : ℕ) → (other ≡ free → ⊥) → arrivalOf placed other ≡ arrivalOf rows other
+  placed-other other apart =
+      cases (fits free size)
+      (λ fit. user-other rows free (nextOf arrivals) point sls size fit other apart)
+      (λ large. ap (λ (l : List ℕ). arrivalOf l other) (user-large rows free (nextOf arrivals) point sls size large))
+
+  pub user-joined : (link : ℕ) → link < 33
+      → (new : List ℕ)
+      × (numbers (userRow queues arrivals rows point sls size) (userQueues queues arrivals ring) link ≡ numbers rows queues link ++ new)
+  unfolding userQueues userRow
+  user-joined link l =
+      cases (eqb (userReply (queues .spans) arrivals) 0)
+      (λ e.
+      let found = user-found (λ n. true) rows octets queues sound arrivals (eqb-true (userReply (queues .spans) arrivals) 0 e) in
+      alike link ring
+      (λ same.
+      let there = joined-there rows octets queues sound 33 found (omega arith) placed placed-other ring h in
+      let new : List ℕ = arrivalOf placed free ∷ [] in (
+        new,
+        simp e
+            (ap (λ (r : ℕ). numbers placed (moved queues 33 ring) r) same
+            ∙ there
+            ∙ ap (λ (r : ℕ). numbers rows queues r ++ new) (sym same)),
+      ))
+      (λ apart.
+      let there = joined-other rows octets queues sound 33 found (omega arith) placed placed-other ring h link l apart in
+      ([], simp e (there ∙ sym (append-nil (numbers rows queues link))))))
+      (λ e. ([], simp (e, append-nil (numbers rows queues link))))

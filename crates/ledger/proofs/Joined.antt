@@ -38,11 +38,17 @@ arrival-other rows slot message other apart =
     0
     (omega arith)
 
-user-other : (rows : List ℕ) (slot arrival point sls size : ℕ) → fits slot size ≡ true → (other : ℕ) → (other ≡ slot → ⊥)
+pub user-other : (rows : List ℕ) (slot arrival point sls size : ℕ) → fits slot size ≡ true → (other : ℕ) → (other ≡ slot → ⊥)
     → arrivalOf (userRows rows slot arrival point sls size) other ≡ arrivalOf rows other
 unfolding userRows
 user-other rows slot arrival point sls size fit other apart =
     simp fit (arrival-other rows slot (Message.userRow arrival point sls size) other apart)
+
+-- one that doesn't fit writes none
+pub user-large : (rows : List ℕ) (slot arrival point sls size : ℕ) → fits slot size ≡ false
+    → userRows rows slot arrival point sls size ≡ rows
+unfolding userRows
+user-large rows slot arrival point sls size large = simp large
 
 module _
     (test : ℕ → Bool)
@@ -58,7 +64,7 @@ module _
   free-found free e = head-found queues free (omega (arith, eqb-false (countOf spans free) 0 e))
 
   -- where the reply is 0 a slot of the kind is free
-  user-found : userReply spans arrivals ≡ 0 → headOf queues 33 .found ≡ true
+  pub user-found : userReply spans arrivals ≡ 0 → headOf queues 33 .found ≡ true
   unfolding userReply
   user-found done = free-found 33 (none-applies 6 (noUserPlace spans) _ done .0)
 

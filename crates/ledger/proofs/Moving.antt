@@ -90,7 +90,7 @@ module _ (test : ℕ → Bool) (rows octets : List ℕ) (ring : ℕ) (within : r
 
 module _ (test : ℕ → Bool) (rows octets : List ℕ) (plan : Plan) (links marks : List ℕ) (point : ℕ) where
   -- of the messages held apart those for a point move, and the others go behind
-  released-one-even : (now : State) → Ready rows octets apart now
+  pub released-one-even : (now : State) → Ready rows octets apart now
       → Even test rows octets apart now (releasedOne plan links marks rows point now)
   unfolding releasedOne
   released-one-even now ready =

@@ -1,4 +1,3 @@
 pub mod Written
 pub mod ReadBack
 pub mod SpareBits
-pub mod Examples

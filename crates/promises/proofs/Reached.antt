@@ -37,7 +37,7 @@ pub record Whole (m : Memory) : Type 0 where
   pub octets-long : length (m .octets) ≡ 52416
 
 -- the record of a link that never was in service
-abbrev unused : LinkRecord
+abbrev pub unused : LinkRecord
 unused = record { state = 0; acknowledged = 0; received = 0; sent = 0; timer = 0; t3 = false; code = 0 }
 
 module _ (links : List ℕ) (long : length links ≡ 256) where
@@ -54,7 +54,7 @@ module _ (links : List ℕ) (long : length links ≡ 256) where
   unfolding emptied
   fresh-length = length-sets links 0 (run (λ i. 0) 0 256) ∙ long
 
-  fresh-record : (link : ℕ) → link < 32 → recordAt (freshLinks links) link ≡ unused
+  pub fresh-record : (link : ℕ) → link < 32 → recordAt (freshLinks links) link ≡ unused
   fresh-record link h =
       simp (
         lt-ltb link 32 h,

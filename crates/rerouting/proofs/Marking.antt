@@ -18,7 +18,8 @@ use Rattle.replies.specs.Areas.{Areas, areas, Outcome, outcome, Leaves}
 use Rattle.replies.proofs.Leaving.{leaves}
 use Rattle.reports.specs.Report.{Log, log}
 use Rattle.lookup.specs.Lookup.{setTo, rankBy}
-use Rattle.access.specs.Change.{Accesses, isAccessible, changesTold}
+use Rattle.access.specs.Change.{accessesOf, isAccessible, changesTold}
+use Rattle.access.proofs.Filled.{says-each}
 use Rattle.access.proofs.Same.{told-same}
 use Rattle.current.specs.Current.{currentSet}
 use Rattle.rerouting.specs.Mark.{rankFor, differs, counts, marked, diverts, marksAfter, accessTold, transferred}
@@ -166,7 +167,7 @@ module _ (plan : Plan) (arriving fsn point x : ℕ) (prohibits : Bool) (a : Area
       ∙ transfer-if false e)
 
   -- the flags change, and the access that changed is told against what was noted before
-  module _ (e : effect ≡ true) (table : List Bool) (noted : Accesses plan (a .links) (a .marks) table) (marks : List ℕ)
+  module _ (e : effect ≡ true) (table : List Bool) (noted : table ≡ accessesOf plan (a .links) (a .marks)) (marks : List ℕ)
       (changed : marks ≡ marks-then) where
     abbrev told-now : Log
     told-now = changesTold plan (λ (d : ℕ). getD table d false) (isAccessible plan (a .links) marks) (log (a .reports) 0)
@@ -175,7 +176,7 @@ module _ (plan : Plan) (arriving fsn point x : ℕ) (prohibits : Bool) (a : Area
     unfolding accessTold
     told-is =
         told-same plan (λ (d : ℕ). getD table d false) (isAccessible plan (a .links) (a .marks))
-        (isAccessible plan (a .links) marks) (isAccessible plan (a .links) marks-then) (log (a .reports) 0) noted
+        (isAccessible plan (a .links) marks) (isAccessible plan (a .links) marks-then) (log (a .reports) 0) (says-each plan (a .links) (a .marks) table noted)
         (λ d h. ap (λ (m : List ℕ). isAccessible plan (a .links) m d) changed)
 
     pub takes-effect : (count : ℕ) (reports : List ℕ) → (count ≡ told-now .count) × (reports ≡ told-now .area) → (answer : Answer)

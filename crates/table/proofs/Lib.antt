@@ -16,3 +16,4 @@ pub mod OthersUnchanged
 pub mod ReceivedLeft
 pub mod Unchanged
 pub mod Taken
+pub mod Once

@@ -1,21 +1,21 @@
 -- `access::change::accesses` meets its contract. The loop's invariant: the places passed say whether their destinations are
--- accessible. The measure is what is left of the given ones.
+-- accessible, and the others aren't set. The measure is what is left of the given ones.
 -- Assumes nothing.
 use borrow.Author.Needs.{needs}
-use mathlib.Core.Bool.{false}
+use mathlib.Core.Bool.{false, _&&_}
 use mathlib.Core.Path.{_≡_, refl, _∙_}
 use Prim.Native.Nat.{ℕ, _-_, _≤_, _<_}
-use native.Mathlib.Nat.{not-suc-le-zero}
 use native.Mathlib.Omega.{arith}
+use lib.Dec.{ltb}
 use lib.ListN.{length, getD, length-set}
 use Rattle.access.specs.Change.{isAccessible}
-use Rattle.access.proofs.Filled.{filled-next}
+use Rattle.access.proofs.Filled.{filled-none, filled-next, filled-all}
 use Rattle.access.proofs.change.accesses.Statement.{statement}
 use Rattle.access.proofs.change.accesses.Tie as tie
 
 abbrev Inv-loop : tie.InvT-loop
 Inv-loop plan links marks each₀ all d₀ each d =
-    (d ≤ all) × (length each ≡ 64) × ((k : ℕ) → k < d → getD each k false ≡ isAccessible plan links marks k)
+    (d ≤ all) × (length each ≡ 64) × ((k : ℕ) → getD each k false ≡ (ltb k d && isAccessible plan links marks k))
 
 abbrev μ-loop : tie.MeasureT-loop
 μ-loop plan links marks each₀ all d₀ each d = all - d
@@ -24,7 +24,9 @@ given-of-requires : tie.Need-given-of-requires Inv-loop μ-loop
 given-of-requires c κs = search needs
 
 loop-holds : tie.Need-loop-holds Inv-loop μ-loop
-loop-holds c = (omega arith, refl, λ k h. absurd (not-suc-le-zero h))
+loop-holds c =
+    let a = c .before .args in
+    (omega arith, refl, filled-none (isAccessible (a .plan) (a .links .now) (a .marks .now)) 64)
 
 accessible-requires : tie.Need-accessible-requires Inv-loop μ-loop
 accessible-requires c κs = search needs
@@ -50,7 +52,10 @@ loop-again c =
 
 returns : tie.Need-returns Inv-loop μ-loop
 returns c =
-    λ k h. c .before .loop .inv .2 k (omega (arith, c .before .before .given-of .ensures, c .loop-test .left))
+    let a = c .before .before .before .args in
+    let l = c .before .loop in
+    filled-all (a .plan) (a .links .now) (a .marks .now) (l .each) (l .d)
+    (omega (arith, c .before .before .given-of .ensures, c .loop-test .left, l .inv .0)) (l .inv .1) (l .inv .2)
 
 pub accesses-spec : {M : Type 1} → statement M
 accesses-spec =

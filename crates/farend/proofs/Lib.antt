@@ -1,0 +1,11 @@
+pub mod Onward
+pub mod OnwardMade
+pub mod Retired
+pub mod OnwardPassing
+pub mod OnwardReceiving
+pub mod OnwardCalls
+pub mod Served
+pub mod ServedCalls
+pub mod TrueNumbers
+pub mod Once
+pub mod FarEnd

@@ -1,0 +1,294 @@
+-- Every call lets the queue and the numbers of every link go on but those of one: the link that it takes out, or that is sent on,
+-- acknowledged or brought into service.
+-- Assumes nothing.
+use mathlib.Core.Path.{_≡_, refl, sym, ap, _∙_}
+use mathlib.Core.Bool.{Bool, true, false, cond, not, _&&_, _||_, or-false}
+use mathlib.Core.List.{List, [], _++_, append-nil}
+use Prim.Native.Nat.{ℕ, _<_}
+use native.Mathlib.Omega.{arith}
+use lib.Dec.{eqb, ltb, leb}
+use lib.ListN.{length}
+use borrow.Author.Tests.{ltb-true, ltb-false, eqb-true, not-false}
+use borrow.Table.Steps.{cases}
+use Rattle.plan.specs.declared.data.Plan.{Plan}
+use Rattle.plan.specs.Find.{placeOf}
+use Rattle.plan.proofs.Split.{both-false}
+use Rattle.rows.specs.declared.link.LinkRecord.{LinkRecord}
+use Rattle.rows.specs.Rows.{recordAt, withRecord, withFlag}
+use Rattle.reports.specs.Report.{short, room}
+use Rattle.replies.specs.Reply.{ifDone}
+use Rattle.replies.specs.Areas.{Areas, areas, Outcome, outcome, judged, refused, withLinks}
+use Rattle.lookup.specs.Lookup.{isLink, slcOf, adjacentOf}
+use Rattle.queueing.specs.Head.{Queues, both}
+use Rattle.queueing.specs.Leave.{State, state, retired}
+use Rattle.numbers.specs.Numbers.{upTo, sentOne, acknowledgedTo}
+use Rattle.making.specs.Make.{Held, heldIn, withHeld, withMade, makesReply}
+use Rattle.ending.specs.End.{cutNone, cutUnknown, outOfService}
+use Rattle.changeover.specs.Fail.{stateAt, orderOf, changing, timerOf, openFailed, failed}
+use Rattle.changeover.specs.Fail as Fail
+use Rattle.changeover.specs.Timer as Change
+use Rattle.changeback.specs.declared.pairs.Sources.{Sources}
+use Rattle.changeback.specs.Service.{declares, comesAs, sourcesIn, linksIn, declared, intoService}
+use Rattle.changeback.specs.Service as Service
+use Rattle.waiting.specs.Wait.{stopped}
+use Rattle.waiting.specs.Wait as Wait
+use Rattle.current.specs.Flags.{t6}
+use Rattle.rerouting.specs.Timer.{replyT6, replyT10, testOf, expiredT6, expiredT10}
+use Rattle.rerouting.specs.Timer as Rerouting
+use Rattle.sending.specs.Send as Send
+use Rattle.sending.specs.Acknowledge as Acknowledge
+use Rattle.node.specs.declared.call.Event.{Event}
+use Rattle.node.specs.declared.call.Event.the-variants.{IntoService, Failure, Send, Acknowledgement, Received, FromHost, T1, T2, T3, T4, T6, T8, T10, RouteList}
+use Rattle.node.specs.Memory.{Memory}
+use Rattle.node.specs.Call.{sends, acknowledges, waitEnds, t8Ends, lists, receives, takesOver, callOf}
+use Rattle.promises.proofs.Records.{record-other}
+use Rattle.promises.proofs.Outcomes.{RegularIn, by-test, if-done, if-both-done, rows-passed, link-within}
+use Rattle.promises.proofs.KeepsMaking.{made-regular}
+use Rattle.accounts.specs.Gone.{queueOf}
+use Rattle.accounts.specs.Ending.{Ending, endingByTimer, endingByFailure, endingOf}
+use Rattle.accounts.proofs.EvenMaking.{joined}
+use Rattle.farend.proofs.Onward.{Same, same-self, Onward, onward-none, onward-on, stored, onward-stored}
+use Rattle.farend.proofs.OnwardMade.{joined-onward, made-onward, out-onward, released-grows}
+use Rattle.farend.proofs.Retired.{others-left}
+use Rattle.farend.proofs.OnwardPassing.{sent-onward}
+use Rattle.farend.proofs.OnwardReceiving.{butOf, onward-any, stopped-same, received-onward}
+
+by-bool : {A : Type 0} (P : Bool → A → Type 0) (test : Bool) (done refused : A) → (test ≡ true → P true done) → P false refused
+    → P test (cond test done refused)
+by-bool P true done refused p q = p refl
+by-bool P false done refused p q = q
+
+by-bools : {A : Type 0} (P : Bool → A → Type 0) (first next : Bool) (both one none : A) → (first ≡ true → next ≡ true → P true both)
+    → (first ≡ true → next ≡ false → P false one)
+    → P false none
+    → P (first && next) (cond first (cond next both one) none)
+by-bools P true true both one none p q r = p refl refl
+by-bools P true false both one none p q r = q refl refl
+by-bools P false next both one none p q r = r
+
+-- what holds of a judged event by whether it is done, and by a test within it
+by-done : {A : Type 0} (P : Bool → A → Type 0) (reply : ℕ) (done refused : A) → (reply ≡ 0 → P true done) → P false refused
+    → P (eqb reply 0) (ifDone reply done refused)
+by-done P reply done refused does was = by-bool P (eqb reply 0) done refused (λ e. does (eqb-true reply 0 e)) was
+
+two-tests : {A : Type 0} (P : Bool → A → Type 0) (reply : ℕ) (test : Bool) (both one none : A) → (reply ≡ 0 → test ≡ true → P true both)
+    → (reply ≡ 0 → test ≡ false → P false one)
+    → P false none
+    → P (eqb reply 0 && test) (ifDone reply (cond test both one) none)
+two-tests P reply test both one none p q r =
+    by-bools P (eqb reply 0) test both one none (λ e t. p (eqb-true reply 0 e) t) (λ e t. q (eqb-true reply 0 e) t) r
+
+-- another link's record is stored: the others are as they were
+pub others-same : (links : List ℕ) (link : ℕ) (new : LinkRecord) (other : ℕ) → (other ≡ link → ⊥)
+    → Same (recordAt links other) (recordAt (withRecord links link new) other)
+others-same links link new other apart =
+    let same = record-other links link new other apart in
+    record {
+      acknowledged-same = ap (λ (k : LinkRecord). k .acknowledged) same;
+      sent-same = ap (λ (k : LinkRecord). k .sent) same;
+      still-out = λ out. ap (λ (k : LinkRecord). k .state) same ∙ out;
+    }
+
+module _ (plan : Plan) (a : Areas) (octets : List ℕ) (regular : RegularIn a octets) where
+  -- the link that an event is about
+  module _ (link : ℕ) where
+    abbrev known : LinkRecord
+    known = recordAt (a .links) link
+
+    -- T1, or T2, expires
+    timer-onward : (timer : ℕ) → Onward (butOf (endingByTimer plan a link timer)) a (Change.expired plan a link timer .after)
+    unfolding endingByTimer Change.expired Change.replyOf
+    timer-onward timer =
+        let odd = not (eqb timer 1 || eqb timer 2) in
+        let reply = Change.replyOf plan (a .links) link timer (a .reports) in
+        by-done (λ (ends : Bool) (o : Outcome). Onward (cond ends link 32) a (o .after)) reply
+        (outOfService plan a link (cutUnknown known))
+        (refused reply a)
+        (λ done.
+        let passed = rows-passed (leb 32 link || (odd || short (a .reports))) (not (isLink plan link)) (not (eqb (known .timer) timer)) [] done in
+        out-onward a octets regular plan link (link-within link (odd || short (a .reports)) (passed .0))
+        (both-false odd (short (a .reports)) (both-false (leb 32 link) (odd || short (a .reports)) (passed .0) .1) .1)
+        (cutUnknown known))
+        (onward-none 32 a)
+
+    -- an open link fails
+    open-onward : known .state ≡ 2 → Onward 32 a (openFailed plan a link .after)
+    unfolding openFailed
+    open-onward is =
+        onward-stored 32 a (withMade plan (orderOf plan (a .links) link) a) (regular .links-long)
+        (made-onward a octets regular plan (orderOf plan (a .links) link))
+        link
+        (changing known (timerOf plan a link))
+        (record { acknowledged-same = refl; sent-same = refl; still-out = λ out. absurd (omega (arith, is)) })
+
+    failure-onward : Onward (butOf (endingByFailure plan a link)) a (failed plan a link .after)
+    unfolding endingByFailure failed Fail.replyOf
+    failure-onward =
+        let reply = Fail.replyOf plan (a .links) link (a .reports) in
+        let waits = eqb (stateAt (a .links) link) 1 in
+        let opened = eqb (stateAt (a .links) link) 2 in
+        two-tests (λ (ends : Bool) (o : Outcome). Onward (cond ends link 32) a (o .after)) reply waits (outOfService plan a link cutNone)
+        (openFailed plan a link)
+        (refused reply a)
+        (λ done e.
+        let passed = rows-passed (leb 32 link || short (a .reports)) (not (isLink plan link)) (not (opened || waits)) [] done in
+        out-onward a octets regular plan link (link-within link (short (a .reports)) (passed .0))
+        (both-false (leb 32 link) (short (a .reports)) (passed .0) .1)
+        cutNone)
+        (λ done e.
+        let passed = rows-passed (leb 32 link || short (a .reports)) (not (isLink plan link)) (not (opened || waits)) [] done in
+        let is : opened ≡ true = sym (or-false opened) ∙ ap (λ (t : Bool). opened || t) (sym e) ∙ not-false (opened || waits) (passed .2) in
+        open-onward (eqb-true (stateAt (a .links) link) 2 is))
+        (onward-none 32 a)
+
+    -- a link comes into service
+    service-onward : Onward link a (intoService plan a link .after)
+    unfolding intoService linksIn declared
+    service-onward =
+        let from : Sources = sourcesIn plan (a .links) (a .marks) link in
+        let there : Onward 32 a (withHeld a (declared plan link from (heldIn a))) =
+        by-test (λ (now : Held). Onward 32 a (withHeld a now)) (declares from)
+        (joined a octets regular (from .own) 0x51 (adjacentOf plan link) (slcOf plan link) (from .own))
+        (heldIn a)
+        (λ e.
+        let h = ltb-true (from .own) 32 e in
+        joined-onward a octets regular (from .own) (omega arith) 0x51 (adjacentOf plan link) (slcOf plan link) (from .own))
+        (λ e. record { queues = onward-none 32 a .queues; records = onward-none 32 a .records })
+        in
+        if-done (λ (o : Outcome). Onward link a (o .after)) (Service.replyOf plan a link) _ _
+        (λ done.
+        record {
+          queues = λ other h apart. there .queues other h (λ e. omega arith);
+          records = λ other h apart. others-same (a .links) link (comesAs from) other apart;
+        })
+        (onward-none link a)
+
+    -- T3, or T4, expires
+    wait-onward : (timer : ℕ) → Onward 32 a (withLinks a (Wait.expired plan (a .links) link timer))
+    unfolding Wait.expired
+    wait-onward timer =
+        if-done (λ (l : List ℕ). Onward 32 a (withLinks a l)) (Wait.replyOf plan (a .links) link timer)
+        (withRecord (a .links) link (stopped known timer))
+        (a .links)
+        (λ done. onward-stored 32 a a (regular .links-long) (onward-none 32 a) link (stopped known timer) (stopped-same known timer))
+        (record { queues = onward-none 32 a .queues; records = onward-none 32 a .records })
+
+    -- a send
+    send-onward : (room : ℕ) → Onward link a (withLinks a (Send.linksAfter plan (a .links) (a .spans) link room))
+    unfolding Send.linksAfter
+    send-onward room =
+        if-done (λ (l : List ℕ). Onward link a (withLinks a l)) (Send.replyOf plan (a .links) (a .spans) link room)
+        (withRecord (a .links) link (sentOne known))
+        (a .links)
+        (λ done.
+        record {
+          queues = onward-none link a .queues;
+          records = λ other h apart. others-same (a .links) link (sentOne known) other apart;
+        })
+        (record { queues = onward-none link a .queues; records = onward-none link a .records })
+
+    -- one that is done is of a link that there is
+    within : (b : ℕ) → Acknowledge.replyOf plan (a .links) link b ≡ 0 → link < 32
+    unfolding Acknowledge.replyOf
+    within b done =
+        let passed =
+        rows-passed (Acknowledge.outOfRange link b) (not (isLink plan link)) (not (Acknowledge.isOpen (a .links) link)) _ done
+        in
+        link-within link (leb 128 b) (passed .0)
+
+    -- an acknowledgement
+    acknowledged-onward : (b : ℕ)
+        → Onward link a
+        (areas (Acknowledge.linksAfter plan (a .links) link b) (a .marks)
+        (Acknowledge.queuesAfter plan (a .links) (both (a .spans) (a .rings)) link b .spans)
+        (Acknowledge.queuesAfter plan (a .links) (both (a .spans) (a .rings)) link b .rings)
+        (a .rows)
+        (a .arrivals)
+        (a .reports))
+    unfolding Acknowledge.queuesAfter Acknowledge.linksAfter
+    acknowledged-onward b =
+        if-both-done
+        (λ (l : List ℕ) (q : Queues). Onward link a (areas l (a .marks) (q .spans) (q .rings) (a .rows) (a .arrivals) (a .reports)))
+        (Acknowledge.replyOf plan (a .links) link b)
+        (withRecord (a .links) link (acknowledgedTo known b))
+        (a .links)
+        (retired link (upTo known b) (both (a .spans) (a .rings)))
+        (both (a .spans) (a .rings))
+        (λ done.
+        record {
+          queues =
+              λ other h apart.
+              let same =
+              others-left (a .rows) octets link (omega (arith, within b done)) (upTo known b) (both (a .spans) (a .rings)) (regular .store) other (omega arith) apart
+              in
+              ([], same ∙ sym (append-nil (queueOf a other)));
+          records = λ other h apart. others-same (a .links) link (acknowledgedTo known b) other apart;
+        })
+        (record { queues = onward-none link a .queues; records = onward-none link a .records })
+
+  -- T6 expires
+  t6-onward : (x : ℕ) → Onward 32 a (expiredT6 plan a x .after)
+  unfolding expiredT6 replyT6
+  t6-onward x =
+      let marks = withFlag (a .marks) (placeOf plan x) t6 false in
+      if-done (λ (o : Outcome). Onward 32 a (o .after)) (replyT6 plan (a .marks) x (a .reports)) _ _
+      (λ done.
+      let wide : short (a .reports) ≡ false =
+      by-test (λ (n : ℕ). n ≡ 0 → short (a .reports) ≡ false) (short (a .reports)) 1 (Rerouting.replyOf plan (a .marks) x t6)
+      (λ e none. absurd (omega arith))
+      (λ e none. e)
+      done
+      in
+      let now : State = state (a .spans) (a .rings) (a .reports) 0 in
+      let grows =
+      released-grows (a .rows) octets plan (a .links) marks x now
+      (record { sound = regular .store; spare = omega (arith, regular .store .short 32, ltb-false (room (a .reports)) 512 wide) })
+      in
+      record { queues = λ link h apart. grows link h; records = λ link h apart. same-self (recordAt (a .links) link) })
+      (onward-none 32 a)
+
+  -- T10 expires
+  t10-onward : (x set : ℕ) → Onward 32 a (expiredT10 plan a x set .after)
+  unfolding expiredT10
+  t10-onward x set =
+      let draft = testOf plan x set in
+      if-done (λ (o : Outcome). Onward 32 a (o .after)) (replyT10 plan (a .marks) x set) _ _
+      (λ done.
+      if-done (λ (o : Outcome). Onward 32 a (o .after)) (makesReply plan draft a) _ _ (λ made. made-onward a octets regular plan draft)
+      (onward-none 32 a))
+      (onward-none 32 a)
+
+-- the link that a call is about: the one that it brings in, sends on or acknowledges, or takes out; 32 where there is none
+unfoldable pub ownOf : Plan → Areas → List ℕ → Event → ℕ
+ownOf plan a message (IntoService link) = link
+ownOf plan a message (Send link) = link
+ownOf plan a message (Acknowledgement link b) = link
+ownOf plan a message (Failure link) = butOf (endingOf plan a message (Failure link))
+ownOf plan a message (Received link fsn) = butOf (endingOf plan a message (Received link fsn))
+ownOf plan a message (T1 link) = butOf (endingOf plan a message (T1 link))
+ownOf plan a message (T2 link) = butOf (endingOf plan a message (T2 link))
+ownOf plan a message FromHost = 32
+ownOf plan a message (T3 link) = 32
+ownOf plan a message (T4 link) = 32
+ownOf plan a message (T6 x) = 32
+ownOf plan a message (T8 x) = 32
+ownOf plan a message (T10 x set) = 32
+ownOf plan a message RouteList = 32
+
+module _ (plan : Plan) (message : List ℕ) (m : Memory) (regular : RegularIn (m .areas) (m .octets)) where
+  pub call-onward : (event : Event) → Onward (ownOf plan (m .areas) message event) (m .areas) (callOf plan event message m .after .areas)
+  unfolding ownOf endingOf callOf sends acknowledges waitEnds t8Ends lists receives takesOver
+  call-onward (IntoService link) = service-onward plan (m .areas) (m .octets) regular link
+  call-onward (Send link) = send-onward plan (m .areas) (m .octets) regular link (length (m .out))
+  call-onward (Acknowledgement link b) = acknowledged-onward plan (m .areas) (m .octets) regular link b
+  call-onward (Failure link) = failure-onward plan (m .areas) (m .octets) regular link
+  call-onward (Received link fsn) = received-onward plan (m .areas) (m .octets) regular link fsn message
+  call-onward (T1 link) = timer-onward plan (m .areas) (m .octets) regular link 1
+  call-onward (T2 link) = timer-onward plan (m .areas) (m .octets) regular link 2
+  call-onward FromHost = sent-onward plan (m .areas) (m .octets) regular message
+  call-onward (T3 link) = wait-onward plan (m .areas) (m .octets) regular link 3
+  call-onward (T4 link) = wait-onward plan (m .areas) (m .octets) regular link 4
+  call-onward (T6 x) = t6-onward plan (m .areas) (m .octets) regular x
+  call-onward (T8 x) = record { queues = onward-none 32 (m .areas) .queues; records = onward-none 32 (m .areas) .records }
+  call-onward (T10 x set) = t10-onward plan (m .areas) (m .octets) regular x set
+  call-onward RouteList = onward-none 32 (m .areas)

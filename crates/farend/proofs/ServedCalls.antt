@@ -1,0 +1,215 @@
+-- After every call, and every run of calls, what was done over a link in service agrees with its own numbers.
+-- Assumes nothing.
+use mathlib.Core.Path.{_≡_, refl, sym, ap, _∙_, subst}
+use mathlib.Core.Bool.{Bool, true, false, cond, _&&_, true≢false}
+use mathlib.Core.List.{List, [], _∷_, _++_}
+use Prim.Native.Nat.{ℕ, _+_, _%_, _<_}
+use native.Mathlib.Omega.{arith}
+use lib.Dec.{eqb}
+use lib.ListN.{length}
+use borrow.Author.Tests.{eqb-true, eq-eqb, ne-eqb}
+use borrow.Table.Steps.{cases}
+use Rattle.plan.specs.declared.data.Plan.{Plan}
+use Rattle.plan.specs.Sound as Plan
+use Rattle.plan.proofs.Split.{alike}
+use Rattle.rows.specs.declared.link.LinkRecord.{LinkRecord}
+use Rattle.rows.specs.Rows.{recordAt, withRecord}
+use Rattle.replies.specs.declared.Answer.{Answer}
+use Rattle.replies.specs.Reply.{plain, ifDone}
+use Rattle.replies.specs.Areas.{Areas, areas, Outcome, refused, withLinks}
+use Rattle.queueing.specs.Head.{both}
+use Rattle.numbers.specs.Numbers.{sentOne, acknowledgedTo}
+use Rattle.changeback.specs.Service.{sourcesIn, linksIn, intoService}
+use Rattle.changeback.specs.Service as Service
+use Rattle.sending.specs.Send as Send
+use Rattle.sending.specs.Acknowledge as Acknowledge
+use Rattle.node.specs.declared.call.Event.{Event}
+use Rattle.node.specs.declared.call.Event.the-variants.{IntoService, Failure, Send, Acknowledgement, Received, FromHost, T1, T2, T3, T4, T6, T8, T10, RouteList}
+use Rattle.node.specs.Memory.{Memory, Result}
+use Rattle.node.specs.Call.{sends, acknowledges, callOf}
+use Rattle.promises.specs.Run.{Call, lent, called, ran}
+use Rattle.promises.proofs.Records.{record-same}
+use Rattle.promises.proofs.Outcomes.{RegularIn, by-test, both-by-test}
+use Rattle.promises.proofs.KeepsCalls.{RegularAt, call-regular}
+use Rattle.accounts.specs.Gone.{upToB}
+use Rattle.accounts.specs.Ending.{Ending, endingOf}
+use Rattle.accounts.proofs.Endings.{ending-exactly}
+use Rattle.farend.specs.Service.{Service, begun, servedBy, served, Serving, servedIn}
+use Rattle.farend.proofs.OnwardReceiving.{butOf}
+use Rattle.farend.proofs.OnwardCalls.{ownOf, call-onward}
+use Rattle.farend.proofs.Served.{acknowledged-serving, sent-serving, begun-serving, same-serving}
+
+-- a link that is in service is served as it says
+abbrev pub InService : Areas → ℕ → Service → Type 0
+InService a link s = (recordAt (a .links) link .state ≡ 0 → ⊥) → Serving a link s
+
+-- what holds of an answer that is a reply alone, by whether it is 0
+by-answer : {A : Type 0} (reply : ℕ) (P : Bool → A → Type 0) (new old : A) → (reply ≡ 0 → P true new) → P false old
+    → P (eqb reply 0) (ifDone reply new old)
+by-answer reply P new old does was =
+    by-both (eqb reply 0) refl
+  where
+    by-both : (t : Bool) → eqb reply 0 ≡ t → P t (cond t new old)
+    by-both true e = does (eqb-true reply 0 e)
+    by-both false e = was
+
+module _ (plan : Plan) (message : List ℕ) (m : Memory) (regular : RegularAt m) (link : ℕ) (h : link < 32) (s : Service)
+    (before : InService (m .areas) link s) where
+  abbrev a : Areas
+  a = m .areas
+
+  -- by a result
+  abbrev Goes : Event → Result → Type 0
+  Goes event r = InService (r .after .areas) link (servedBy plan a link (eqb (r .answer .reply) 0) s event)
+
+  -- an event on another link does nothing over this one
+  other-event : (event : Event) (done : Bool) → (ownOf plan a message event ≡ link → ⊥) → servedBy plan a link done s event ≡ s
+  unfolding servedBy ownOf
+  other-event (IntoService other) done apart = ap (λ (t : Bool). cond (t && done) begun s) (ne-eqb other link apart)
+  other-event (Send other) done apart =
+      ap (λ (t : Bool). cond (t && done) (record { acknowledged = s .acknowledged; sent = s .sent + 1 }) s) (ne-eqb other link apart)
+  other-event (Acknowledgement other b) done apart =
+      ap (λ (t : Bool). cond (t && done) (record { acknowledged = s .acknowledged ++ upToB plan a link b; sent = s .sent }) s)
+      (ne-eqb other link apart)
+  other-event (Failure other) done apart = refl
+  other-event (Received other fsn) done apart = refl
+  other-event FromHost done apart = refl
+  other-event (T1 other) done apart = refl
+  other-event (T2 other) done apart = refl
+  other-event (T3 other) done apart = refl
+  other-event (T4 other) done apart = refl
+  other-event (T6 x) done apart = refl
+  other-event (T8 x) done apart = refl
+  other-event (T10 x set) done apart = refl
+  other-event RouteList done apart = refl
+
+  elsewhere : (event : Event) → (ownOf plan a message event ≡ link → ⊥) → Goes event (callOf plan event message m)
+  elsewhere event apart up =
+      let r = callOf plan event message m in
+      let same = call-onward plan message m regular event .records link h (λ e. apart (sym e)) in
+      subst (λ (now : Service). Serving (r .after .areas) link now) (sym (other-event event (eqb (r .answer .reply) 0) apart))
+      (same-serving a (r .after .areas) link s same (before (λ out. up (same .still-out out))))
+
+  -- an event that takes the link out leaves none in service
+  gone-out : (event : Event) → butOf (endingOf plan a message event) ≡ link
+      → (now : Service) → InService (callOf plan event message m .after .areas) link now
+  gone-out event own now up =
+      let ending : Ending = endingOf plan a message event in
+      cases (ending .ends)
+      (λ ends.
+      let here : ending .link ≡ link = sym (ap (λ (t : Bool). cond t (ending .link) 32) ends) ∙ own in
+      absurd
+      (up
+      (ap (λ (l : ℕ). recordAt (callOf plan event message m .after .areas .links) l .state) (sym here)
+      ∙ ending-exactly plan message m regular event ends .goes-out)))
+      (λ stays.
+      let none : 32 ≡ link = sym (ap (λ (t : Bool). cond t (ending .link) 32) stays) ∙ own in
+      absurd (omega arith))
+
+  -- the link comes into service
+  into-service : Goes (IntoService link) (callOf plan (IntoService link) message m)
+  unfolding callOf intoService servedBy linksIn
+  into-service =
+      let reply = Service.replyOf plan a link in
+      let here = eq-eqb link link refl in
+      by-test (λ (o : Outcome). InService (o .after) link (cond (eqb link link && eqb (o .answer .reply) 0) begun s)) (eqb reply 0) _ (refused reply a)
+      (λ done up. simp here (begun-serving plan a (m .octets) regular link h (sourcesIn plan (a .links) (a .marks) link) _ refl))
+      (λ refuses up. simp (here, refuses) (before up))
+
+  -- a record that is stored with its state is out where it was
+  state-stays : (new : LinkRecord) → new .state ≡ recordAt (a .links) link .state → recordAt (a .links) link .state ≡ 0
+      → recordAt (withRecord (a .links) link new) link .state ≡ 0
+  state-stays new same out =
+      ap (λ (k : LinkRecord). k .state) (record-same (a .links) link new (regular .links-long) h)
+      ∙ ap (λ (n : ℕ). n % 4) (same ∙ out)
+
+  -- a message is sent on it
+  abbrev sent-service : Service
+  sent-service = record { acknowledged = s .acknowledged; sent = s .sent + 1 }
+
+  send-on : Goes (Send link) (callOf plan (Send link) message m)
+  unfolding callOf sends servedBy Send.answerOf Send.linksAfter
+  send-on =
+      let reply = Send.replyOf plan (a .links) (a .spans) link (length (m .out)) in
+      let here = eq-eqb link link refl in
+      both-by-test
+      (λ (answer : Answer) (links : List ℕ).
+      InService (withLinks a links) link (cond (eqb link link && eqb (answer .reply) 0) sent-service s))
+      (eqb reply 0)
+      _
+      (plain reply)
+      (withRecord (a .links) link (sentOne (recordAt (a .links) link)))
+      (a .links)
+      (λ done up.
+      simp here
+      (sent-serving plan a (m .octets) regular link h (a .spans) (length (m .out)) (eqb-true reply 0 done) s
+      (before (λ out. up (state-stays (sentOne (recordAt (a .links) link)) refl out)))
+      _
+      refl))
+      (λ refuses up. simp (here, refuses) (before up))
+
+  -- messages are acknowledged on it
+  module _ (b : ℕ) where
+    abbrev acknowledged-service : Service
+    acknowledged-service = record { acknowledged = s .acknowledged ++ upToB plan a link b; sent = s .sent }
+
+    acknowledge-on : Goes (Acknowledgement link b) (callOf plan (Acknowledgement link b) message m)
+    unfolding callOf acknowledges servedBy Acknowledge.linksAfter
+    acknowledge-on =
+        let reply = Acknowledge.replyOf plan (a .links) link b in
+        let here = eq-eqb link link refl in
+        let queues = Acknowledge.queuesAfter plan (a .links) (both (a .spans) (a .rings)) link b in
+        let new = acknowledgedTo (recordAt (a .links) link) b in
+        by-answer reply
+        (λ (done : Bool) (links : List ℕ).
+        InService (areas links (a .marks) (queues .spans) (queues .rings) (a .rows) (a .arrivals) (a .reports)) link
+        (cond (eqb link link && done) acknowledged-service s))
+        (withRecord (a .links) link new)
+        (a .links)
+        (λ done up.
+        simp here
+        (acknowledged-serving plan a (m .octets) regular link h b done s (before (λ out. up (state-stays new refl out))) _ refl))
+        (λ up.
+        let was = before up in
+        simp here (record { sent-is = was .sent-is; acknowledged-is = was .acknowledged-is }))
+
+  -- every event
+  pub call-served : (event : Event) → Goes event (callOf plan event message m)
+  unfolding ownOf
+  call-served (IntoService other) =
+      alike other link
+      (λ same. subst (λ (l : ℕ). Goes (IntoService l) (callOf plan (IntoService l) message m)) (sym same) into-service)
+      (elsewhere (IntoService other))
+  call-served (Send other) =
+      alike other link (λ same. subst (λ (l : ℕ). Goes (Send l) (callOf plan (Send l) message m)) (sym same) send-on)
+      (elsewhere (Send other))
+  call-served (Acknowledgement other b) =
+      alike other link
+      (λ same. subst (λ (l : ℕ). Goes (Acknowledgement l b) (callOf plan (Acknowledgement l b) message m)) (sym same) (acknowledge-on b))
+      (elsewhere (Acknowledgement other b))
+  call-served (Failure other) =
+      alike (ownOf plan a message (Failure other)) link (λ own. gone-out (Failure other) own _) (elsewhere (Failure other))
+  call-served (Received other fsn) =
+      alike (ownOf plan a message (Received other fsn)) link (λ own. gone-out (Received other fsn) own _) (elsewhere (Received other fsn))
+  call-served (T1 other) = alike (ownOf plan a message (T1 other)) link (λ own. gone-out (T1 other) own _) (elsewhere (T1 other))
+  call-served (T2 other) = alike (ownOf plan a message (T2 other)) link (λ own. gone-out (T2 other) own _) (elsewhere (T2 other))
+  call-served FromHost = elsewhere FromHost (λ e. omega arith)
+  call-served (T3 other) = elsewhere (T3 other) (λ e. omega arith)
+  call-served (T4 other) = elsewhere (T4 other) (λ e. omega arith)
+  call-served (T6 x) = elsewhere (T6 x) (λ e. omega arith)
+  call-served (T8 x) = elsewhere (T8 x) (λ e. omega arith)
+  call-served (T10 x set) = elsewhere (T10 x set) (λ e. omega arith)
+  call-served RouteList = elsewhere RouteList (λ e. omega arith)
+
+-- over a run of calls
+module _ (plan : Plan) (sound : Plan.Sound plan) (link : ℕ) (h : link < 32) where
+  pub run-served : (calls : List Call) (m : Memory) (s : Service) → RegularAt m → InService (m .areas) link s
+      → InService (ran plan calls m .areas) link (servedIn plan calls m link s)
+  unfolding ran servedIn called served
+  run-served [] m s regular before = before
+  run-served (call ∷ later) m s regular before =
+      run-served later (called plan call m) (served plan call m link s)
+      (call-regular plan sound (call .message) (lent call m) regular (call .event))
+      (call-served plan (call .message) (lent call m) regular link h s
+      (λ up. let was = before up in record { sent-is = was .sent-is; acknowledged-is = was .acknowledged-is })
+      (call .event))
