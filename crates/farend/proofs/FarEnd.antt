@@ -26,9 +26,10 @@ use Rattle.promises.proofs.Reached.{Whole, fresh-record, fresh-regular}
 use Rattle.accounts.specs.Gone.{queueOf, nothingGone, goneIn, Gone, nextIn}
 use Rattle.accounts.proofs.OnePlace.{tally-on, everything-in-one-place}
 use Rattle.farend.specs.Service.{Service, begun, numberOf, Serving, servedIn}
-use Rattle.farend.specs.FarEnd.{Honest, Truly, Once}
+use Rattle.farend.specs.FarEnd.{TrueRun, takenIn, Truly, Once}
 use Rattle.farend.proofs.ServedCalls.{run-served}
 use Rattle.farend.proofs.TrueNumbers.{true-in-range, true-number}
+use Rattle.farend.proofs.Story.{run-honest}
 use Rattle.farend.proofs.Once.{run-part, queue-held}
 
 module _ (m : Memory) (whole : Whole m) (one : length (m .areas .arrivals) ≡ 1) (text : List ℕ) (calls : List Call) (link : ℕ) (h : link < 32) where
@@ -66,9 +67,14 @@ module _ (m : Memory) (whole : Whole m) (one : length (m .areas .arrivals) ≡ 1
 
   -- "If the number and every acknowledgement before it were true, what the far end took, and what moved or was reported, make up all that
   -- was queued on that link since it came into service"; and the number is in range
-  pub far-end : (recordAt (after .links) link .state ≡ 0 → ⊥) → (taken : ℕ) → Honest service taken
-      → Truly after link service taken (numberOf taken)
-  far-end up taken honest = true-number after link service (numbers-agree up) taken honest
+  pub far-end : (recordAt (after .links) link .state ≡ 0 → ⊥) → (takings : List ℕ) → TrueRun plan link calls takings (fresh m) begun 0
+      → let taken = takenIn calls takings 0 in
+      Truly after link service taken (numberOf taken)
+  far-end up takings story =
+      let honest =
+      run-honest plan link calls takings (fresh m) begun 0 (record { acknowledged-taken = omega arith; taken-sent = omega arith }) story
+      in
+      true-number after link service (numbers-agree up) (takenIn calls takings 0) honest
 
   -- a true acknowledgement, of a message that was sent and isn't acknowledged yet, is never refused while the link is open
   pub true-acknowledged : isLink plan link ≡ true → recordAt (after .links) link .state ≡ 2 → (count : ℕ)

@@ -8,4 +8,5 @@ pub mod Served
 pub mod ServedCalls
 pub mod TrueNumbers
 pub mod Once
+pub mod Story
 pub mod FarEnd

@@ -1,8 +1,9 @@
 -- The far end of a link: "it takes a beginning of what was sent there, in order, which may grow from call to call."
-use Prim.Native.Nat.{ℕ, _≤_}
+use Prim.Native.Nat.{ℕ, _≤_, _<_}
 use mathlib.Core.Path.{_≡_}
-use mathlib.Core.Bool.{true}
+use mathlib.Core.Bool.{Bool, true, false, _&&_}
 use mathlib.Core.List.{List, [], _∷_, _++_}
+use lib.Dec.{eqb}
 use lib.ListN.{length, take, drop}
 use Rattle.plan.specs.declared.data.Plan.{Plan}
 use Rattle.rows.specs.Rows.{recordAt}
@@ -11,9 +12,11 @@ use Rattle.replies.specs.Areas.{Areas}
 use Rattle.counting.specs.Counting.{inRange}
 use Rattle.ending.specs.End.{cutAt}
 use Rattle.promises.specs.Run.{Call, called}
+use Rattle.node.specs.declared.call.Event.{Event}
+use Rattle.node.specs.declared.call.Event.the-variants.{IntoService, Failure, Send, Acknowledgement, Received, FromHost, T1, T2, T3, T4, T6, T8, T10, RouteList}
 use Rattle.node.specs.Memory.{Memory}
 use Rattle.accounts.specs.Gone.{queueOf}
-use Rattle.farend.specs.Service.{Service, queuedOn, sentOver, numberOf, served}
+use Rattle.farend.specs.Service.{Service, queuedOn, sentOver, isDone, served}
 
 -- what it took: the first so many of what was sent
 abbrev pub tookOf : Areas → ℕ → Service → ℕ → List ℕ
@@ -23,6 +26,43 @@ tookOf a link s taken = take taken (sentOver a link s)
 pub record Honest (s : Service) (taken : ℕ) : Type 0 where
   pub acknowledged-taken : length (s .acknowledged) ≤ taken
   pub taken-sent : taken ≤ s .sent
+
+-- whether a link comes into service, and its far end begins anew
+unfoldable pub begins : ℕ → Bool → Event → Bool
+begins link done (IntoService other) = eqb other link && done
+begins link done (Send other) = false
+begins link done (Acknowledgement other b) = false
+begins link done (Failure other) = false
+begins link done (Received other fsn) = false
+begins link done FromHost = false
+begins link done (T1 other) = false
+begins link done (T2 other) = false
+begins link done (T3 other) = false
+begins link done (T4 other) = false
+begins link done (T6 x) = false
+begins link done (T8 x) = false
+begins link done (T10 x set) = false
+begins link done RouteList = false
+
+-- from one call to the next: what it took "may grow", no further than what was sent, and what was acknowledged was "taken by then"
+pub record TrueStep (anew : Bool) (before after : Service) (took takes : ℕ) : Type 0 where
+  pub grows : anew ≡ false → took ≤ takes
+  pub of-sent : takes ≤ after .sent
+  pub acknowledged-truly : length (before .acknowledged) < length (after .acknowledged) → length (after .acknowledged) ≤ takes
+
+-- how many it has taken after each call of a run, all true
+unfoldable pub TrueRun : Plan → ℕ → List Call → List ℕ → Memory → Service → ℕ → Type 0
+TrueRun plan link [] takings m s took = Unit {0}
+TrueRun plan link (call ∷ later) [] m s took = ⊥
+TrueRun plan link (call ∷ later) (takes ∷ takings) m s took =
+    TrueStep (begins link (isDone plan call m) (call .event)) s (served plan call m link s) took takes
+    × TrueRun plan link later takings (called plan call m) (served plan call m link s) takes
+
+-- and in the end
+unfoldable pub takenIn : List Call → List ℕ → ℕ → ℕ
+takenIn [] takings took = took
+takenIn (call ∷ later) [] took = took
+takenIn (call ∷ later) (takes ∷ takings) took = takenIn later takings takes
 
 -- "A changeover number is true if it is that of the last message ever taken there in that time of service, or the starting number if none
 -- is": what holds of one, in areas whose link goes out by it

@@ -51,10 +51,13 @@ servedBy plan a link done s (T8 x) = s
 servedBy plan a link done s (T10 x set) = s
 servedBy plan a link done s RouteList = s
 
+-- whether a call is done: its reply is 0
+abbrev pub isDone : Plan → Call → Memory → Bool
+isDone plan call m = eqb (callOf plan (call .event) (call .message) (lent call m) .answer .reply) 0
+
 -- with a call more
 unfoldable pub served : Plan → Call → Memory → ℕ → Service → Service
-served plan call m link s =
-    servedBy plan (lent call m .areas) link (eqb (callOf plan (call .event) (call .message) (lent call m) .answer .reply) 0) s (call .event)
+served plan call m link s = servedBy plan (lent call m .areas) link (isDone plan call m) s (call .event)
 
 -- the number of the last of so many messages sent in this time; "or the starting number if none is"
 abbrev pub numberOf : ℕ → ℕ
