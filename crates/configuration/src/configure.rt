@@ -4,6 +4,7 @@ use building::add::add_link;
 use building::add::add_node;
 use building::add::add_route;
 use building::add::add_set;
+use lines::line_from;
 use plan::data::Plan;
 use plan::data::empty_plan;
 use statement::Said;
@@ -13,7 +14,6 @@ use statement::read_statement;
 use statement::read_word;
 use text::part::between;
 use text::part::field;
-use text::part::line;
 ghost use mathlib.Core.Path.{_≡_};
 ghost use mathlib.Core.Bool.{_&&_};
 ghost use lib.Dec.{leb};
@@ -38,7 +38,7 @@ pub fn configure(text: &[u8]) -> Configured
     let mut number = 1;
     let mut at = 0;
     loop {
-        let end = line(text, at);
+        let end = line_from(text, at);
         if is_done(plan.given, at, text.len()) {
             return Configured {
                 line: 0,

@@ -10,3 +10,5 @@ pub mod TrueNumbers
 pub mod Once
 pub mod Story
 pub mod FarEnd
+pub mod CardCalls
+pub mod Card

@@ -3,8 +3,8 @@
 use mathlib.Core.Path.{_≡_, refl, sym, ap, _∙_}
 use mathlib.Core.Bool.{Bool, true, false, cond, not, _&&_, true≢false}
 use mathlib.Core.List.{List, [], _∷_, _++_}
-use Prim.Native.Nat.{ℕ, _+_, _%_, _≤_, _<_}
-use native.Mathlib.Nat.{mod-lt, mod-eq-of-lt, mod-add-mod}
+use Prim.Native.Nat.{ℕ, _+_, _<_}
+use native.Mathlib.Nat.{mod-lt, mod-eq-of-lt}
 use native.Mathlib.Omega.{arith}
 use lib.Dec.{eqb, leb, lit<}
 use lib.ListN.{length, take, length-map, length-append}
@@ -38,6 +38,10 @@ use Rattle.accounts.proofs.EvenEnding.{sent-queued}
 use Rattle.farend.specs.Service.{Service, begun, numberOf, Serving}
 use Rattle.farend.proofs.Onward.{Same}
 
+-- with so many messages more, the number is as many on
+pub number-onward : (count more : ℕ) → numberOf (count + more) ≡ onward 128 (numberOf count) more
+number-onward count more = omega arith
+
 module _ (plan : Plan) (a : Areas) (octets : List ℕ) (regular : RegularIn a octets) (link : ℕ) (h : link < 32) where
   abbrev known : LinkRecord
   known = recordAt (a .links) link
@@ -51,7 +55,7 @@ module _ (plan : Plan) (a : Areas) (octets : List ℕ) (regular : RegularIn a oc
   -- an acknowledgement that is done
   module _ (b : ℕ) (done : Acknowledge.replyOf plan (a .links) link b ≡ 0) where
     -- its number is one of the 128
-    b-below : b < 128
+    pub b-below : b < 128
     unfolding Acknowledge.replyOf
     b-below =
         let passed =
@@ -68,34 +72,34 @@ module _ (plan : Plan) (a : Areas) (octets : List ℕ) (regular : RegularIn a oc
         ap length (ap (λ (t : Bool). cond t (take (upTo known b) (queueOf a link)) []) (eq-eqb (Acknowledge.replyOf plan (a .links) link b) 0 done))
         ∙ length-take-le (upTo known b) (queueOf a link) (omega (arith, left, fits, queue-counts))
 
-    pub acknowledged-serving : (s : Service) → Serving a link s → (after : Areas)
-        → after .links ≡ withRecord (a .links) link (acknowledgedTo known b)
-        → Serving after link (record { acknowledged = s .acknowledged ++ upToB plan a link b; sent = s .sent })
-    acknowledged-serving s serving after e =
-        let there = ap (λ (l : List ℕ). recordAt l link) e ∙ record-same (a .links) link (acknowledgedTo known b) (regular .links-long) h in
-        let all : length (s .acknowledged ++ upToB plan a link b) ≡ length (s .acknowledged) + upTo known b =
-        length-append (s .acknowledged) (upToB plan a link b) ∙ ap (λ (n : ℕ). length (s .acknowledged) + n) retires-so-many
-        in
-        let left = retired-and-left plan (a .links) link b done in
-        let few : acknowledgedTo known b .sent < 128 = mod-lt _ (lit< tt) in
-        let sent-now : recordAt (after .links) link .sent ≡ acknowledgedTo known b .sent =
-        ap (λ (k : LinkRecord). k .sent) there ∙ mod-eq-of-lt few
-        in
-        let so-far : ℕ = length (s .acknowledged) in
-        let more : ℕ = upTo known b in
-        let sum : 127 + (so-far + more) ≡ (127 + so-far) + more = omega arith in
-        let number : numberOf (so-far + more) ≡ b =
-        ap (λ (n : ℕ). n % 128) sum
-        ∙ sym (mod-add-mod (127 + so-far) 128 more)
-        ∙ ap (λ (n : ℕ). (n + more) % 128) (sym (serving .acknowledged-is))
-        ∙ onward-distance 128 (lit< tt) (known .acknowledged) b
-        ∙ mod-eq-of-lt b-below
-        in
-        record {
-          sent-is = omega (arith, all, left, sent-now, serving .sent-is);
-          acknowledged-is =
-              ap (λ (k : LinkRecord). k .acknowledged) there ∙ mod-eq-of-lt b-below ∙ sym number ∙ ap numberOf (sym all);
-        }
+    module _ (s : Service) (serving : Serving a link s) where
+      -- so many are acknowledged with them
+      all-acknowledged : length (s .acknowledged ++ upToB plan a link b) ≡ length (s .acknowledged) + upTo known b
+      all-acknowledged =
+          length-append (s .acknowledged) (upToB plan a link b) ∙ ap (λ (n : ℕ). length (s .acknowledged) + n) retires-so-many
+
+      -- and b is the number of the last of them
+      pub acknowledged-number : numberOf (length (s .acknowledged ++ upToB plan a link b)) ≡ b
+      acknowledged-number =
+          ap numberOf all-acknowledged
+          ∙ number-onward (length (s .acknowledged)) (upTo known b)
+          ∙ ap (λ (n : ℕ). onward 128 n (upTo known b)) (sym (serving .acknowledged-is))
+          ∙ onward-distance 128 (lit< tt) (known .acknowledged) b
+          ∙ mod-eq-of-lt b-below
+
+      pub acknowledged-serving : (after : Areas) → after .links ≡ withRecord (a .links) link (acknowledgedTo known b)
+          → Serving after link (record { acknowledged = s .acknowledged ++ upToB plan a link b; sent = s .sent })
+      acknowledged-serving after e =
+          let there = ap (λ (l : List ℕ). recordAt l link) e ∙ record-same (a .links) link (acknowledgedTo known b) (regular .links-long) h in
+          let left = retired-and-left plan (a .links) link b done in
+          let few : acknowledgedTo known b .sent < 128 = mod-lt _ (lit< tt) in
+          let sent-now : recordAt (after .links) link .sent ≡ acknowledgedTo known b .sent =
+          ap (λ (k : LinkRecord). k .sent) there ∙ mod-eq-of-lt few
+          in
+          record {
+            sent-is = omega (arith, all-acknowledged, left, sent-now, serving .sent-is);
+            acknowledged-is = ap (λ (k : LinkRecord). k .acknowledged) there ∙ mod-eq-of-lt b-below ∙ sym acknowledged-number;
+          }
 
   -- a send that is done
   pub sent-serving : (spans : List ℕ) (room : ℕ) → Send.replyOf plan (a .links) spans link room ≡ 0 → (s : Service) → Serving a link s

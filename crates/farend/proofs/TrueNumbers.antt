@@ -4,8 +4,7 @@
 use mathlib.Core.Path.{_≡_, refl, sym, ap, _∙_}
 use mathlib.Core.Bool.{Bool, true, false, cond, not}
 use mathlib.Core.List.{List, [], _∷_, _++_, append-assoc}
-use Prim.Native.Nat.{ℕ, _+_, _-_, _%_, _≤_, _<_}
-use native.Mathlib.Nat.{mod-lt, mod-add-mod}
+use Prim.Native.Nat.{ℕ, _+_, _-_, _≤_}
 use native.Mathlib.Omega.{arith}
 use lib.Dec.{eqb, leb, lit<}
 use lib.ListN.{length, take, drop, length-append, take-append-drop}
@@ -23,6 +22,7 @@ use Rattle.promises.proofs.Keeping.{loaded-in-range}
 use Rattle.accounts.specs.Gone.{queueOf}
 use Rattle.farend.specs.Service.{Service, queuedOn, sentOver, numberOf, Serving}
 use Rattle.farend.specs.FarEnd.{tookOf, Honest, Truly}
+use Rattle.farend.proofs.Served.{number-onward}
 
 module _ (a : Areas) (link : ℕ) (s : Service) (serving : Serving a link s) where
   abbrev known : LinkRecord
@@ -33,11 +33,7 @@ module _ (a : Areas) (link : ℕ) (s : Service) (serving : Serving a link s) whe
 
   -- the number of the message that many on from the last acknowledged
   pub number-on : (more : ℕ) → numberOf (so-far + more) ≡ onward 128 (known .acknowledged) more
-  number-on more =
-      let sum : 127 + (so-far + more) ≡ (127 + so-far) + more = omega arith in
-      ap (λ (n : ℕ). n % 128) sum
-      ∙ sym (mod-add-mod (127 + so-far) 128 more)
-      ∙ ap (λ (n : ℕ). (n + more) % 128) (sym (serving .acknowledged-is))
+  number-on more = number-onward so-far more ∙ ap (λ (n : ℕ). onward 128 n more) (sym (serving .acknowledged-is))
 
   module _ (count : ℕ) (from : so-far ≤ count) (to : count ≤ s .sent) where
     abbrev more : ℕ

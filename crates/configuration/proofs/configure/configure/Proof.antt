@@ -29,8 +29,8 @@ empty-plan-requires c κs = search needs
 loop-holds : tie.Need-loop-holds Inv-loop μ-loop
 loop-holds c = begun (c .before .before .before .args .text .now) (c .empty-plan .result) (c .before .if1 .left) (c .empty-plan .ensures)
 
-line-requires : tie.Need-line-requires Inv-loop μ-loop
-line-requires c κs = search needs
+line-from-requires : tie.Need-line-from-requires Inv-loop μ-loop
+line-from-requires c κs = search needs
 
 is-done-requires : tie.Need-is-done-requires Inv-loop μ-loop
 is-done-requires c κs = search needs
@@ -54,7 +54,7 @@ returns-3 c =
     let now = c .before .before .before .before .before .before .before .loop in
     let text = c .before .before .before .before .before .before .before .before .before .before .before .args .text .now in
     c .faulty2 .ensures
-    ∙ sym (turn-faulty (now .plan) (now .number) text (now .at) (c .before .before .before .before .before .before .line .result) (c .before .before .before .before .before .before .line .ensures) (c .before .before .before .add-line .result) (c .before .before .before .add-line .ensures) (sym (c .before .before .before .before .before .is-done .ensures) ∙ c .before .before .before .before .if2 .left) (c .before .if3 .taken))
+    ∙ sym (turn-faulty (now .plan) (now .number) text (now .at) (c .before .before .before .before .before .before .line-from .result) (c .before .before .before .before .before .before .line-from .ensures) (c .before .before .before .add-line .result) (c .before .before .before .add-line .ensures) (sym (c .before .before .before .before .before .is-done .ensures) ∙ c .before .before .before .before .if2 .left) (c .before .if3 .taken))
     ∙ now .inv .same
     ∙ whole text (now .inv .short)
 
@@ -64,14 +64,14 @@ add-number c = omega (arith, c .before .before .before .before .before .before .
 loop-less : tie.Need-loop-less Inv-loop μ-loop
 loop-less c =
     let now = c .before .before .before .before .before .before .before .loop in
-    let far = onward (c .before .before .before .before .before .before .before .before .before .before .before .args .text .now) (now .plan) (now .number) (now .at) (now .inv) (c .before .before .before .before .before .before .line .result) (c .before .before .before .before .before .before .line .ensures) (c .before .before .before .add-line .result) (c .before .before .before .add-line .ensures) (c .before .if3 .left) in
-    let inside = within (c .before .before .before .before .before .before .before .before .before .before .before .args .text .now) (now .plan) (now .number) (now .at) (now .inv) (c .before .before .before .before .before .before .line .result) (c .before .before .before .before .before .before .line .ensures) (c .before .before .before .add-line .result) (c .before .before .before .add-line .ensures) (c .before .if3 .left) in
+    let far = onward (c .before .before .before .before .before .before .before .before .before .before .before .args .text .now) (now .plan) (now .number) (now .at) (now .inv) (c .before .before .before .before .before .before .line-from .result) (c .before .before .before .before .before .before .line-from .ensures) (c .before .before .before .add-line .result) (c .before .before .before .add-line .ensures) (c .before .if3 .left) in
+    let inside = within (c .before .before .before .before .before .before .before .before .before .before .before .args .text .now) (now .plan) (now .number) (now .at) (now .inv) (c .before .before .before .before .before .before .line-from .result) (c .before .before .before .before .before .before .line-from .ensures) (c .before .before .before .add-line .result) (c .before .before .before .add-line .ensures) (c .before .if3 .left) in
     omega arith
 
 loop-again : tie.Need-loop-again Inv-loop μ-loop
 loop-again c =
     let now = c .before .before .before .before .before .before .before .loop in
-    on (c .before .before .before .before .before .before .before .before .before .before .before .args .text .now) (now .plan) (now .number) (now .at) (now .inv) (c .before .before .before .before .before .before .line .result) (c .before .before .before .before .before .before .line .ensures) (c .before .before .before .add-line .result) (c .before .before .before .add-line .ensures) (c .before .if3 .left)
+    on (c .before .before .before .before .before .before .before .before .before .before .before .args .text .now) (now .plan) (now .number) (now .at) (now .inv) (c .before .before .before .before .before .before .line-from .result) (c .before .before .before .before .before .before .line-from .ensures) (c .before .before .before .add-line .result) (c .before .before .before .add-line .ensures) (c .before .if3 .left)
 
 pub configure-spec : {M : Type 1} → statement M
 configure-spec =
@@ -83,7 +83,7 @@ configure-spec =
     returns
     empty-plan-requires
     loop-holds
-    line-requires
+    line-from-requires
     is-done-requires
     returns-2
     add-line-requires
