@@ -1,7 +1,7 @@
 -- What a management message asks of a link's queue can be borne: no more is retired than stands there.
 -- Assumes nothing.
-use mathlib.Core.Path.{_≡_, sym}
-use mathlib.Core.Bool.{true, false, cond, _&&_, true≢false, and-eq-true-iff}
+use mathlib.Core.Path.{_≡_}
+use mathlib.Core.Bool.{true, cond, _&&_, and-eq-true-iff}
 use mathlib.Core.List.{List}
 use Prim.Native.Nat.{ℕ, _≤_, _<_}
 use native.Mathlib.Omega.{arith}
@@ -17,7 +17,7 @@ use Rattle.ending.specs.End.{cutAt, cutUnknown, cutNone}
 use Rattle.orders.specs.declared.step.Step.{Step}
 use Rattle.orders.specs.Step.{nothing, answer, answerAndEnd, end}
 use Rattle.orders.specs.Ask.{draft, lastReceived, orderStep, emergencyOf, askCOO, askECO, ackStep, askCOA, askECA, askCBD, allows, askRST}
-use Rattle.promises.proofs.Outcomes.{by-test}
+use Rattle.promises.proofs.Outcomes.{by-test, unmet}
 use Rattle.accounts.proofs.EvenEnding.{Fits, cut-fits}
 use Rattle.network.specs.declared.management.Message.{Message}
 use Rattle.network.specs.declared.management.Message.the-variants.{COO, COA, CBD, CBA, ECO, ECA, TFP, TFA, RST}
@@ -29,17 +29,13 @@ Bears count step = step .ends ≡ true → (step .link < 32) × Fits (step .part
 
 -- what each management message asks can be borne, where what is sent of a link is in its queue
 module _ (count : ℕ → ℕ) where
-  -- a step that ends none
-  bears-none : {A : Type 0} → false ≡ true → A
-  bears-none e = absurd (true≢false (sym e))
-
   order-bears : (known : LinkRecord) (link : ℕ) → link < 32 → (own emergency : Draft) (parts : Cut) → Fits parts (count link)
       → Bears count (orderStep known link own emergency parts)
   unfolding orderStep
   order-bears known link h own emergency parts fits =
       by-test (Bears count) (eqb (known .state) 0) (answer emergency)
       (answerAndEnd own link (cond (eqb (known .state) 1) cutNone parts))
-      (λ e. bears-none)
+      (λ e. unmet)
       (λ e.
       by-test (λ (c : Cut). Bears count (answerAndEnd own link c)) (eqb (known .state) 1) cutNone parts
       (λ e ends. (h, (omega arith, omega arith)))
@@ -52,7 +48,7 @@ module _ (count : ℕ → ℕ) where
       (λ e ends.
       let h = ltb-true link 32 (and-eq-true-iff (ltb link 32) (eqb (known .timer) 2) .0 e .0) in
       (h, fits h))
-      (λ e. bears-none)
+      (λ e. unmet)
 
   module _ (plan : Plan) (links marks : List ℕ) (queued : (link : ℕ) → link < 32 → recordAt links link .sent ≤ count link)
       (arriving fsn point slc : ℕ) where
@@ -74,7 +70,7 @@ module _ (count : ℕ → ℕ) where
         order-bears (recordAt links link) link h (draft 0x21 point slc (lastReceived links arriving fsn link) link) (emergencyOf point slc link)
         (cutAt (recordAt links link) f)
         (at-fits f h))
-        (λ e. bears-none)
+        (λ e. unmet)
 
     eco-bears : Bears count (askECO plan links point slc)
     unfolding askECO
@@ -86,7 +82,7 @@ module _ (count : ℕ → ℕ) where
         order-bears (recordAt links link) link (ltb-true link 32 e) (emergencyOf point slc link) (emergencyOf point slc link)
         (cutUnknown (recordAt links link))
         (omega arith, omega arith))
-        (λ e. bears-none)
+        (λ e. unmet)
 
     coa-bears : (f : ℕ) → Bears count (askCOA plan links point slc f)
     unfolding askCOA
@@ -99,12 +95,12 @@ module _ (count : ℕ → ℕ) where
     cbd-bears : (code : ℕ) → Bears count (askCBD plan point slc code)
     unfolding askCBD
     cbd-bears code =
-        by-test (Bears count) (ltb link 32) (answer (draft 0x61 point slc code 32)) nothing (λ e. bears-none) (λ e. bears-none)
+        by-test (Bears count) (ltb link 32) (answer (draft 0x61 point slc code 32)) nothing (λ e. unmet) (λ e. unmet)
 
     rst-bears : (x : ℕ) → Bears count (askRST plan links marks point x)
     unfolding askRST
     rst-bears x =
-        by-test (Bears count) (allows plan links marks point x) (answer (draft 0x54 point 0 x 32)) nothing (λ e. bears-none) (λ e. bears-none)
+        by-test (Bears count) (allows plan links marks point x) (answer (draft 0x54 point 0 x 32)) nothing (λ e. unmet) (λ e. unmet)
 
     -- whatever it is
     pub asked-bears : (message : Message) → Bears count (asked plan links marks arriving fsn point slc message)
@@ -112,9 +108,9 @@ module _ (count : ℕ → ℕ) where
     asked-bears (COO f) = coo-bears f
     asked-bears (COA f) = coa-bears f
     asked-bears (CBD code) = cbd-bears code
-    asked-bears (CBA code) = bears-none
+    asked-bears (CBA code) = unmet
     asked-bears ECO = eco-bears
     asked-bears ECA = eca-bears
-    asked-bears (TFP x) = bears-none
-    asked-bears (TFA x) = bears-none
+    asked-bears (TFP x) = unmet
+    asked-bears (TFA x) = unmet
     asked-bears (RST x) = rst-bears x

@@ -1,7 +1,7 @@
 -- Where a link goes out, its answer stands before all that moves, and its own queue is still as it was.
 -- Assumes nothing.
 use mathlib.Core.Path.{_≡_, refl, sym}
-use mathlib.Core.Bool.{true, false, cond, _&&_, true≢false, and-eq-true-iff}
+use mathlib.Core.Bool.{true, cond, _&&_, and-eq-true-iff}
 use mathlib.Core.List.{List, [], _++_, append-nil}
 use Prim.Native.Nat.{ℕ, _<_}
 use lib.Dec.{eqb, ltb}
@@ -11,7 +11,6 @@ use Rattle.rows.specs.Rows.{recordAt}
 use Rattle.rings.specs.Ring.{countOf}
 use Rattle.network.specs.declared.management.Message.{Message}
 use Rattle.network.specs.declared.management.Message.the-variants.{COO, COA, CBD, CBA, ECO, ECA, TFP, TFA, RST}
-use Rattle.replies.specs.Reply.{ifDone}
 use Rattle.replies.specs.Areas.{Areas}
 use Rattle.lookup.specs.Lookup.{linkNamed}
 use Rattle.making.specs.declared.Draft.{Draft}
@@ -28,7 +27,7 @@ use Rattle.discrimination.specs.Discrimination.{fromLink}
 use Rattle.receiving.specs.Receive as Receive
 use Rattle.node.specs.declared.call.Event.{Event}
 use Rattle.node.specs.declared.call.Event.the-variants.{IntoService, Failure, Send, Acknowledgement, Received, FromHost, T1, T2, T3, T4, T6, T8, T10, RouteList}
-use Rattle.promises.proofs.Outcomes.{RegularIn, by-test}
+use Rattle.promises.proofs.Outcomes.{RegularIn, by-test, unmet}
 use Rattle.accounts.specs.Gone.{queueOf}
 use Rattle.accounts.specs.Ending.{Ending, noEnding, endingByTimer, endingByFailure, endingByStep, endingByMessage, endingOf, Starts}
 use Rattle.accounts.proofs.Answers.{answer-joined, answer-never}
@@ -39,22 +38,18 @@ use Rattle.accounts.proofs.EvenEnding.{sent-queued}
 abbrev Spares : Step → Type 0
 Spares step = step .ends ≡ true → step .answers ≡ true → step .draft .never ≡ step .link
 
--- a step that ends none, or that isn't answered
-none-ends : {A : Type 0} → false ≡ true → A
-none-ends e = absurd (true≢false (sym e))
-
 order-spares : (known : LinkRecord) (link : ℕ) (own emergency : Draft) (parts : Cut) → own .never ≡ link
     → Spares (orderStep known link own emergency parts)
 unfolding orderStep
 order-spares known link own emergency parts never =
     by-test Spares (eqb (known .state) 0) (answer emergency) (answerAndEnd own link (cond (eqb (known .state) 1) cutNone parts))
-    (λ e. none-ends)
+    (λ e. unmet)
     (λ e ends answers. never)
 
 ack-spares : (link : ℕ) (known : LinkRecord) (parts : Cut) → Spares (ackStep link known parts)
 unfolding ackStep
 ack-spares link known parts =
-    by-test Spares (ltb link 32 && eqb (known .timer) 2) (end link parts) nothing (λ e ends. none-ends) (λ e. none-ends)
+    by-test Spares (ltb link 32 && eqb (known .timer) 2) (end link parts) nothing (λ e ends. unmet) (λ e. unmet)
 
 module _ (plan : Plan) (links marks : List ℕ) (arriving fsn point slc : ℕ) where
   abbrev link : ℕ
@@ -71,22 +66,22 @@ module _ (plan : Plan) (links marks : List ℕ) (arriving fsn point slc : ℕ) w
       nothing
       (λ e.
       order-spares known link (draft 0x21 point slc (lastReceived links arriving fsn link) link) (emergencyOf point slc link) (cutAt known f) refl)
-      (λ e. none-ends)
+      (λ e. unmet)
   asked-spares (COA f) = ack-spares link known (cutAt known f)
   asked-spares (CBD code) =
-      by-test Spares (ltb link 32) (answer (draft 0x61 point slc code 32)) nothing (λ e. none-ends) (λ e. none-ends)
-  asked-spares (CBA code) = none-ends
+      by-test Spares (ltb link 32) (answer (draft 0x61 point slc code 32)) nothing (λ e. unmet) (λ e. unmet)
+  asked-spares (CBA code) = unmet
   asked-spares ECO =
       by-test Spares (ltb link 32)
       (orderStep known link (emergencyOf point slc link) (emergencyOf point slc link) (cutUnknown known))
       nothing
       (λ e. order-spares known link (emergencyOf point slc link) (emergencyOf point slc link) (cutUnknown known) refl)
-      (λ e. none-ends)
+      (λ e. unmet)
   asked-spares ECA = ack-spares link known (cutUnknown known)
-  asked-spares (TFP x) = none-ends
-  asked-spares (TFA x) = none-ends
+  asked-spares (TFP x) = unmet
+  asked-spares (TFA x) = unmet
   asked-spares (RST x) =
-      by-test Spares (allows plan links marks point x) (answer (draft 0x54 point 0 x 32)) nothing (λ e. none-ends) (λ e. none-ends)
+      by-test Spares (allows plan links marks point x) (answer (draft 0x54 point 0 x 32)) nothing (λ e. unmet) (λ e. unmet)
 
 module _ (plan : Plan) (a : Areas) (octets : List ℕ) (regular : RegularIn a octets) where
   -- nothing is made before it
@@ -108,9 +103,9 @@ module _ (plan : Plan) (a : Areas) (octets : List ℕ) (regular : RegularIn a oc
   message-starts : (arriving fsn : ℕ) (came : Came) → endingByMessage plan a arriving fsn came .ends ≡ true
       → Starts a (endingByMessage plan a arriving fsn came)
   unfolding endingByMessage
-  message-starts arriving fsn Malformed = none-ends
-  message-starts arriving fsn Foreign = none-ends
-  message-starts arriving fsn Delivered = none-ends
+  message-starts arriving fsn Malformed = unmet
+  message-starts arriving fsn Foreign = unmet
+  message-starts arriving fsn Delivered = unmet
   message-starts arriving fsn (Managed order) =
       step-starts arriving fsn (asked plan (a .links) (a .marks) arriving fsn (order .point) (order .slc) (order .message))
       (asked-bears (countOf (a .spans)) plan (a .links) (a .marks)
@@ -121,7 +116,7 @@ module _ (plan : Plan) (a : Areas) (octets : List ℕ) (regular : RegularIn a oc
       (order .slc)
       (order .message))
       (asked-spares plan (a .links) (a .marks) arriving fsn (order .point) (order .slc) (order .message))
-  message-starts arriving fsn (Passed label) = none-ends
+  message-starts arriving fsn (Passed label) = unmet
 
   -- by every event
   pub ending-starts : (message : List ℕ) (event : Event) → endingOf plan a message event .ends ≡ true
@@ -132,18 +127,18 @@ module _ (plan : Plan) (a : Areas) (octets : List ℕ) (regular : RegularIn a oc
       (endingByMessage plan a link fsn (fromLink plan message))
       (noEnding a)
       (λ done. message-starts link fsn (fromLink plan message))
-      (λ refused. none-ends)
+      (λ refused. unmet)
       ends
   ending-starts message (Failure link) ends = record { own = refl; others = unchanged }
   ending-starts message (T1 link) ends = record { own = refl; others = unchanged }
   ending-starts message (T2 link) ends = record { own = refl; others = unchanged }
-  ending-starts message (IntoService link) ends = none-ends ends
-  ending-starts message (Send link) ends = none-ends ends
-  ending-starts message (Acknowledgement link b) ends = none-ends ends
-  ending-starts message FromHost ends = none-ends ends
-  ending-starts message (T3 link) ends = none-ends ends
-  ending-starts message (T4 link) ends = none-ends ends
-  ending-starts message (T6 x) ends = none-ends ends
-  ending-starts message (T8 x) ends = none-ends ends
-  ending-starts message (T10 x set) ends = none-ends ends
-  ending-starts message RouteList ends = none-ends ends
+  ending-starts message (IntoService link) ends = unmet ends
+  ending-starts message (Send link) ends = unmet ends
+  ending-starts message (Acknowledgement link b) ends = unmet ends
+  ending-starts message FromHost ends = unmet ends
+  ending-starts message (T3 link) ends = unmet ends
+  ending-starts message (T4 link) ends = unmet ends
+  ending-starts message (T6 x) ends = unmet ends
+  ending-starts message (T8 x) ends = unmet ends
+  ending-starts message (T10 x set) ends = unmet ends
+  ending-starts message RouteList ends = unmet ends

@@ -1,3 +1,4 @@
+pub mod Tests
 pub mod Onward
 pub mod OnwardMade
 pub mod Retired

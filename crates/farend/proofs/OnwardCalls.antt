@@ -2,22 +2,20 @@
 -- acknowledged or brought into service.
 -- Assumes nothing.
 use mathlib.Core.Path.{_≡_, refl, sym, ap, _∙_}
-use mathlib.Core.Bool.{Bool, true, false, cond, not, _&&_, _||_, or-false}
-use mathlib.Core.List.{List, [], _++_, append-nil}
+use mathlib.Core.Bool.{Bool, true, false, cond, not, _||_, or-false}
+use mathlib.Core.List.{List, [], append-nil}
 use Prim.Native.Nat.{ℕ, _<_}
 use native.Mathlib.Omega.{arith}
 use lib.Dec.{eqb, ltb, leb}
 use lib.ListN.{length}
 use borrow.Author.Tests.{ltb-true, ltb-false, eqb-true, not-false}
-use borrow.Table.Steps.{cases}
 use Rattle.plan.specs.declared.data.Plan.{Plan}
 use Rattle.plan.specs.Find.{placeOf}
 use Rattle.plan.proofs.Split.{both-false}
 use Rattle.rows.specs.declared.link.LinkRecord.{LinkRecord}
 use Rattle.rows.specs.Rows.{recordAt, withRecord, withFlag}
 use Rattle.reports.specs.Report.{short, room}
-use Rattle.replies.specs.Reply.{ifDone}
-use Rattle.replies.specs.Areas.{Areas, areas, Outcome, outcome, judged, refused, withLinks}
+use Rattle.replies.specs.Areas.{Areas, areas, Outcome, refused, withLinks}
 use Rattle.lookup.specs.Lookup.{isLink, slcOf, adjacentOf}
 use Rattle.queueing.specs.Head.{Queues, both}
 use Rattle.queueing.specs.Leave.{State, state, retired}
@@ -43,40 +41,15 @@ use Rattle.node.specs.Memory.{Memory}
 use Rattle.node.specs.Call.{sends, acknowledges, waitEnds, t8Ends, lists, receives, takesOver, callOf}
 use Rattle.promises.proofs.Records.{record-other}
 use Rattle.promises.proofs.Outcomes.{RegularIn, by-test, if-done, if-both-done, rows-passed, link-within}
-use Rattle.promises.proofs.KeepsMaking.{made-regular}
 use Rattle.accounts.specs.Gone.{queueOf}
-use Rattle.accounts.specs.Ending.{Ending, endingByTimer, endingByFailure, endingOf}
+use Rattle.accounts.specs.Ending.{endingByTimer, endingByFailure, endingOf}
 use Rattle.accounts.proofs.EvenMaking.{joined}
-use Rattle.farend.proofs.Onward.{Same, same-self, Onward, onward-none, onward-on, stored, onward-stored}
+use Rattle.farend.proofs.Onward.{Same, same-self, Onward, onward-none, stored, onward-stored}
 use Rattle.farend.proofs.OnwardMade.{joined-onward, made-onward, out-onward, released-grows}
+use Rattle.farend.proofs.Tests.{by-done, two-tests}
 use Rattle.farend.proofs.Retired.{others-left}
 use Rattle.farend.proofs.OnwardPassing.{sent-onward}
-use Rattle.farend.proofs.OnwardReceiving.{butOf, onward-any, stopped-same, received-onward}
-
-by-bool : {A : Type 0} (P : Bool → A → Type 0) (test : Bool) (done refused : A) → (test ≡ true → P true done) → P false refused
-    → P test (cond test done refused)
-by-bool P true done refused p q = p refl
-by-bool P false done refused p q = q
-
-by-bools : {A : Type 0} (P : Bool → A → Type 0) (first next : Bool) (both one none : A) → (first ≡ true → next ≡ true → P true both)
-    → (first ≡ true → next ≡ false → P false one)
-    → P false none
-    → P (first && next) (cond first (cond next both one) none)
-by-bools P true true both one none p q r = p refl refl
-by-bools P true false both one none p q r = q refl refl
-by-bools P false next both one none p q r = r
-
--- what holds of a judged event by whether it is done, and by a test within it
-by-done : {A : Type 0} (P : Bool → A → Type 0) (reply : ℕ) (done refused : A) → (reply ≡ 0 → P true done) → P false refused
-    → P (eqb reply 0) (ifDone reply done refused)
-by-done P reply done refused does was = by-bool P (eqb reply 0) done refused (λ e. does (eqb-true reply 0 e)) was
-
-two-tests : {A : Type 0} (P : Bool → A → Type 0) (reply : ℕ) (test : Bool) (both one none : A) → (reply ≡ 0 → test ≡ true → P true both)
-    → (reply ≡ 0 → test ≡ false → P false one)
-    → P false none
-    → P (eqb reply 0 && test) (ifDone reply (cond test both one) none)
-two-tests P reply test both one none p q r =
-    by-bools P (eqb reply 0) test both one none (λ e t. p (eqb-true reply 0 e) t) (λ e t. q (eqb-true reply 0 e) t) r
+use Rattle.farend.proofs.OnwardReceiving.{butOf, stopped-same, received-onward}
 
 -- another link's record is stored: the others are as they were
 pub others-same : (links : List ℕ) (link : ℕ) (new : LinkRecord) (other : ℕ) → (other ≡ link → ⊥)

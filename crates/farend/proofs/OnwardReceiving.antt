@@ -1,13 +1,12 @@
 -- A message received over a link: every link's queue but that of one that goes out goes on.
 -- Assumes nothing.
 use mathlib.Core.Path.{_≡_, refl, ap, _∙_}
-use mathlib.Core.Bool.{Bool, true, false, cond, _&&_}
+use mathlib.Core.Bool.{Bool, true, false, cond}
 use mathlib.Core.List.{List}
 use Prim.Native.Nat.{ℕ}
 use native.Mathlib.Omega.{arith}
 use lib.Dec.{eqb}
 use lib.ListN.{length}
-use borrow.Table.Steps.{cases}
 use Rattle.plan.specs.declared.data.Plan.{Plan}
 use Rattle.rows.specs.declared.link.LinkRecord.{LinkRecord}
 use Rattle.rows.specs.Rows.{recordAt}
@@ -39,6 +38,7 @@ use Rattle.accounts.proofs.Answers.{answer-regular, answer-reports}
 use Rattle.accounts.proofs.Bearing.{Bears, asked-bears}
 use Rattle.accounts.proofs.EvenEnding.{sent-queued}
 use Rattle.accounts.proofs.EvenReceiving.{room-there}
+use Rattle.farend.proofs.Tests.{three-tests}
 use Rattle.farend.proofs.Onward.{Same, Onward, onward-none, onward-on, onward-stored, onward-taken}
 use Rattle.farend.proofs.OnwardMade.{made-onward, out-onward}
 use Rattle.farend.proofs.OnwardPassing.{taken-only, passed-onward}
@@ -61,16 +61,6 @@ stopped-same known timer =
     by-test (Same known) (eqb timer 3) (waits known false (known .code)) (waits known (known .t3) 0)
     (λ e. record { acknowledged-same = refl; sent-same = refl; still-out = λ out. simp out })
     (λ e. record { acknowledged-same = refl; sent-same = refl; still-out = λ out. simp out })
-
--- what holds by three tests, one within the other
-three-tests : {A : Type 0} (P : Bool → A → Type 0) (first next last : Bool) (all two one none : A) → (last ≡ true → P true all) → P false two
-    → P false one
-    → P false none
-    → P (first && (next && last)) (cond first (cond next (cond last all two) one) none)
-three-tests P true true true all two one none p q r s = p refl
-three-tests P true true false all two one none p q r s = q
-three-tests P true false last all two one none p q r s = r
-three-tests P false next last all two one none p q r s = s
 
 module _ (plan : Plan) (a : Areas) (octets : List ℕ) (regular : RegularIn a octets) (arriving fsn : ℕ) where
   -- a CBA

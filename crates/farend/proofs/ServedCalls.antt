@@ -1,7 +1,7 @@
 -- After every call, and every run of calls, what was done over a link in service agrees with its own numbers.
 -- Assumes nothing.
 use mathlib.Core.Path.{_≡_, refl, sym, ap, _∙_, subst}
-use mathlib.Core.Bool.{Bool, true, false, cond, _&&_, true≢false}
+use mathlib.Core.Bool.{Bool, true, cond, _&&_}
 use mathlib.Core.List.{List, [], _∷_, _++_}
 use Prim.Native.Nat.{ℕ, _+_, _%_, _<_}
 use native.Mathlib.Omega.{arith}
@@ -15,7 +15,7 @@ use Rattle.plan.proofs.Split.{alike}
 use Rattle.rows.specs.declared.link.LinkRecord.{LinkRecord}
 use Rattle.rows.specs.Rows.{recordAt, withRecord}
 use Rattle.replies.specs.declared.Answer.{Answer}
-use Rattle.replies.specs.Reply.{plain, ifDone}
+use Rattle.replies.specs.Reply.{plain}
 use Rattle.replies.specs.Areas.{Areas, areas, Outcome, refused, withLinks}
 use Rattle.queueing.specs.Head.{both}
 use Rattle.numbers.specs.Numbers.{sentOne, acknowledgedTo}
@@ -29,12 +29,13 @@ use Rattle.node.specs.Memory.{Memory, Result}
 use Rattle.node.specs.Call.{sends, acknowledges, callOf}
 use Rattle.promises.specs.Run.{Call, lent, called, ran}
 use Rattle.promises.proofs.Records.{record-same}
-use Rattle.promises.proofs.Outcomes.{RegularIn, by-test, both-by-test}
+use Rattle.promises.proofs.Outcomes.{by-test, both-by-test}
 use Rattle.promises.proofs.KeepsCalls.{RegularAt, call-regular}
 use Rattle.accounts.specs.Gone.{upToB}
 use Rattle.accounts.specs.Ending.{Ending, endingOf}
 use Rattle.accounts.proofs.Endings.{ending-exactly}
 use Rattle.farend.specs.Service.{Service, begun, servedBy, served, Serving, servedIn}
+use Rattle.farend.proofs.Tests.{by-done}
 use Rattle.farend.proofs.OnwardReceiving.{butOf}
 use Rattle.farend.proofs.OnwardCalls.{ownOf, call-onward}
 use Rattle.farend.proofs.Served.{acknowledged-serving, sent-serving, begun-serving, same-serving}
@@ -42,16 +43,6 @@ use Rattle.farend.proofs.Served.{acknowledged-serving, sent-serving, be
 -- a link that is in service is served as it says
 abbrev pub InService : Areas → ℕ → Service → Type 0
 InService a link s = (recordAt (a .links) link .state ≡ 0 → ⊥) → Serving a link s
-
--- what holds of an answer that is a reply alone, by whether it is 0
-by-answer : {A : Type 0} (reply : ℕ) (P : Bool → A → Type 0) (new old : A) → (reply ≡ 0 → P true new) → P false old
-    → P (eqb reply 0) (ifDone reply new old)
-by-answer reply P new old does was =
-    by-both (eqb reply 0) refl
-  where
-    by-both : (t : Bool) → eqb reply 0 ≡ t → P t (cond t new old)
-    by-both true e = does (eqb-true reply 0 e)
-    by-both false e = was
 
 module _ (plan : Plan) (message : List ℕ) (m : Memory) (regular : RegularAt m) (link : ℕ) (h : link < 32) (s : Service)
     (before : InService (m .areas) link s) where
@@ -160,10 +151,11 @@ module _ (plan : Plan) (message : List ℕ) (m : Memory) (regular : RegularAt m)
         let here = eq-eqb link link refl in
         let queues = Acknowledge.queuesAfter plan (a .links) (both (a .spans) (a .rings)) link b in
         let new = acknowledgedTo (recordAt (a .links) link) b in
-        by-answer reply
+        by-done
         (λ (done : Bool) (links : List ℕ).
         InService (areas links (a .marks) (queues .spans) (queues .rings) (a .rows) (a .arrivals) (a .reports)) link
         (cond (eqb link link && done) acknowledged-service s))
+        reply
         (withRecord (a .links) link new)
         (a .links)
         (λ done up.

@@ -1,11 +1,11 @@
 -- A far end all of whose acknowledgements were true has taken all that was acknowledged, and no more than was sent.
 -- Assumes nothing.
-use mathlib.Core.Path.{_≡_, sym, ap}
-use mathlib.Core.Bool.{Bool, true, false, cond, _&&_, true≢false}
+use mathlib.Core.Path.{_≡_, ap}
+use mathlib.Core.Bool.{Bool, true, false, cond}
 use mathlib.Core.List.{List, [], _∷_}
-use Prim.Native.Nat.{ℕ, _≤_, _<_}
+use Prim.Native.Nat.{ℕ}
 use native.Mathlib.Omega.{arith}
-use lib.Dec.{eqb, ltb}
+use lib.Dec.{ltb}
 use lib.ListN.{length}
 use borrow.Author.Tests.{ltb-true, ltb-false}
 use borrow.Table.Steps.{cases}
@@ -15,31 +15,28 @@ use Rattle.node.specs.declared.call.Event.{Event}
 use Rattle.node.specs.declared.call.Event.the-variants.{IntoService, Failure, Send, Acknowledgement, Received, FromHost, T1, T2, T3, T4, T6, T8, T10, RouteList}
 use Rattle.node.specs.Memory.{Memory}
 use Rattle.promises.specs.Run.{Call, lent, called}
+use Rattle.promises.proofs.Outcomes.{unmet}
 use Rattle.farend.specs.Service.{Service, begun, servedBy, isDone, served, servedIn}
 use Rattle.farend.specs.FarEnd.{Honest, begins, TrueStep, TrueRun, takenIn}
-
--- no other event begins a time of service
-none-begins : {A : Type 0} → false ≡ true → A
-none-begins e = absurd (true≢false (sym e))
 
 -- where one begins, nothing is done yet
 begins-anew : (plan : Plan) (a : Areas) (link : ℕ) (done : Bool) (s : Service) (event : Event) → begins link done event ≡ true
     → servedBy plan a link done s event ≡ begun
 unfolding begins servedBy
 begins-anew plan a link done s (IntoService other) e = ap (λ (t : Bool). cond t begun s) e
-begins-anew plan a link done s (Send other) e = none-begins e
-begins-anew plan a link done s (Acknowledgement other b) e = none-begins e
-begins-anew plan a link done s (Failure other) e = none-begins e
-begins-anew plan a link done s (Received other fsn) e = none-begins e
-begins-anew plan a link done s FromHost e = none-begins e
-begins-anew plan a link done s (T1 other) e = none-begins e
-begins-anew plan a link done s (T2 other) e = none-begins e
-begins-anew plan a link done s (T3 other) e = none-begins e
-begins-anew plan a link done s (T4 other) e = none-begins e
-begins-anew plan a link done s (T6 x) e = none-begins e
-begins-anew plan a link done s (T8 x) e = none-begins e
-begins-anew plan a link done s (T10 x set) e = none-begins e
-begins-anew plan a link done s RouteList e = none-begins e
+begins-anew plan a link done s (Send other) e = unmet e
+begins-anew plan a link done s (Acknowledgement other b) e = unmet e
+begins-anew plan a link done s (Failure other) e = unmet e
+begins-anew plan a link done s (Received other fsn) e = unmet e
+begins-anew plan a link done s FromHost e = unmet e
+begins-anew plan a link done s (T1 other) e = unmet e
+begins-anew plan a link done s (T2 other) e = unmet e
+begins-anew plan a link done s (T3 other) e = unmet e
+begins-anew plan a link done s (T4 other) e = unmet e
+begins-anew plan a link done s (T6 x) e = unmet e
+begins-anew plan a link done s (T8 x) e = unmet e
+begins-anew plan a link done s (T10 x set) e = unmet e
+begins-anew plan a link done s RouteList e = unmet e
 
 -- a true step leaves an honest far end honest
 step-honest : (anew : Bool) (before after : Service) (took takes : ℕ) → (anew ≡ true → after ≡ begun) → Honest before took

@@ -1,7 +1,7 @@
 -- A management message that is answered, that ends a changeover, or that does neither leaves a regular state regular.
 -- Assumes nothing.
-use mathlib.Core.Path.{_≡_, sym}
-use mathlib.Core.Bool.{true, false, cond, _&&_, true≢false, and-eq-true-iff}
+use mathlib.Core.Path.{_≡_}
+use mathlib.Core.Bool.{true, cond, _&&_, and-eq-true-iff}
 use mathlib.Core.List.{List}
 use Prim.Native.Nat.{ℕ, _<_}
 use lib.Dec.{eqb, ltb}
@@ -21,7 +21,7 @@ use Rattle.orders.specs.declared.step.Step.{Step}
 use Rattle.orders.specs.Step.{nothing, answer, answerAndEnd, end}
 use Rattle.orders.specs.Ask.{draft, lastReceived, orderStep, emergencyOf, askCOO, askECO, ackStep, askCOA, askECA, askCBD, allows, askRST}
 use Rattle.orders.specs.Carry.{answerReply, withAnswer, endedBy, carried}
-use Rattle.promises.proofs.Outcomes.{RegularIn, by-test, if-judged}
+use Rattle.promises.proofs.Outcomes.{RegularIn, by-test, if-judged, unmet}
 use Rattle.promises.proofs.KeepsNumbers.{taken-regular}
 use Rattle.promises.proofs.KeepsMaking.{made-regular}
 use Rattle.promises.proofs.KeepsEnding.{out-regular}
@@ -67,16 +67,12 @@ module _ (octets : List ℕ) where
 abbrev pub OfLink : Step → Type 0
 OfLink step = step .ends ≡ true → step .link < 32
 
--- one that ends none
-ends-none : {link : ℕ} → false ≡ true → link < 32
-ends-none e = absurd (true≢false (sym e))
-
 order-of-link : (known : LinkRecord) (link : ℕ) → link < 32 → (own emergency : Draft) (parts : Cut)
     → OfLink (orderStep known link own emergency parts)
 unfolding orderStep
 order-of-link known link h own emergency parts =
     by-test OfLink (eqb (known .state) 0) (answer emergency) (answerAndEnd own link (cond (eqb (known .state) 1) cutNone parts))
-    (λ e. ends-none)
+    (λ e. unmet)
     (λ e ends. h)
 
 ack-of-link : (link : ℕ) (known : LinkRecord) (parts : Cut) → OfLink (ackStep link known parts)
@@ -84,7 +80,7 @@ unfolding ackStep
 ack-of-link link known parts =
     by-test OfLink (ltb link 32 && eqb (known .timer) 2) (end link parts) nothing
     (λ e ends. ltb-true link 32 (and-eq-true-iff (ltb link 32) (eqb (known .timer) 2) .0 e .0))
-    (λ e. ends-none)
+    (λ e. unmet)
 
 module _ (plan : Plan) (links marks : List ℕ) (arriving fsn point slc : ℕ) where
   abbrev link : ℕ
@@ -98,7 +94,7 @@ module _ (plan : Plan) (links marks : List ℕ) (arriving fsn point slc : ℕ) w
       (cutAt (recordAt links link) f))
       nothing
       (λ e. order-of-link (recordAt links link) link (ltb-true link 32 e) _ _ _)
-      (λ e. ends-none)
+      (λ e. unmet)
 
   pub eco-of-link : OfLink (askECO plan links point slc)
   unfolding askECO
@@ -107,7 +103,7 @@ module _ (plan : Plan) (links marks : List ℕ) (arriving fsn point slc : ℕ) w
       (orderStep (recordAt links link) link (emergencyOf point slc link) (emergencyOf point slc link) (cutUnknown (recordAt links link)))
       nothing
       (λ e. order-of-link (recordAt links link) link (ltb-true link 32 e) _ _ _)
-      (λ e. ends-none)
+      (λ e. unmet)
 
   pub coa-of-link : (f : ℕ) → OfLink (askCOA plan links point slc f)
   unfolding askCOA
@@ -120,9 +116,9 @@ module _ (plan : Plan) (links marks : List ℕ) (arriving fsn point slc : ℕ) w
   pub cbd-of-link : (code : ℕ) → OfLink (askCBD plan point slc code)
   unfolding askCBD
   cbd-of-link code =
-      by-test OfLink (ltb link 32) (answer (draft 0x61 point slc code 32)) nothing (λ e. ends-none) (λ e. ends-none)
+      by-test OfLink (ltb link 32) (answer (draft 0x61 point slc code 32)) nothing (λ e. unmet) (λ e. unmet)
 
   pub rst-of-link : (x : ℕ) → OfLink (askRST plan links marks point x)
   unfolding askRST
   rst-of-link x =
-      by-test OfLink (allows plan links marks point x) (answer (draft 0x54 point 0 x 32)) nothing (λ e. ends-none) (λ e. ends-none)
+      by-test OfLink (allows plan links marks point x) (answer (draft 0x54 point 0 x 32)) nothing (λ e. unmet) (λ e. unmet)

@@ -1,7 +1,7 @@
 -- What holds of each outcome of a test holds of what it decides; and what the rows of a table say where the reply is 0.
 -- Assumes nothing.
 use mathlib.Core.Path.{_≡_, refl}
-use mathlib.Core.Bool.{Bool, true, false, cond, _||_}
+use mathlib.Core.Bool.{Bool, true, false, cond, _||_, false≢true}
 use mathlib.Core.List.{List, _∷_}
 use Prim.Native.Nat.{ℕ, _<_}
 use lib.Dec.{eqb, leb}
@@ -15,6 +15,10 @@ use Rattle.promises.specs.Regular.{Regular}
 -- the areas are regular, with these octets
 abbrev pub RegularIn : Areas → List ℕ → Type 0
 RegularIn a octets = Regular (a .links) (a .spans) (a .rings) (a .rows) octets
+
+-- a test that fails was not met: whatever was to follow from it holds
+pub unmet : {A : Type 0} → false ≡ true → A
+unmet e = absurd (false≢true e)
 
 module _ {A : Type 0} (P : A → Type 0) where
   pub by-test : (test : Bool) (x y : A) → (test ≡ true → P x) → (test ≡ false → P y) → P (cond test x y)
