@@ -39,13 +39,13 @@ fn start_node(work: Work) {
     let mut octets = [0u8; 52416];
     let mut arrivals = [0u64; 1];
     let made = start(
-        text::part::between(&text, 0, count),
         empty_plan(),
         &mut links,
         &mut marks,
         &mut spans,
         &mut rings,
         &mut arrivals,
+        text::part::between(&text, 0, count),
     );
     if 0 < made.fault {
         say_faulty();

@@ -1,5 +1,5 @@
 // The record that the card driver keeps of one link: the last sent and the last acknowledged number. A send and an acknowledgement change it
-// where it lies; each is thin over a function by value.
+// where it lies; each is thin over a function by value, and C calls it.
 use counting::distance;
 use counting::in_range;
 use counting::next;
@@ -26,7 +26,8 @@ pub struct Acknowledged {
 }
 
 // The record of a link that has just come into service.
-pub fn begun() -> Record
+#[no_mangle]
+pub extern "C" fn transfer_point_begun() -> Record
     ensures { λ r. ⌜ r ≡ Card.begun ⌝ }
 {
     Record {
@@ -76,7 +77,8 @@ pub fn acknowledged_to(link: Record, b: u8) -> Acknowledged
 }
 
 // A message is sent: the record is brought up to date, and its number is given.
-pub fn note_sent(link: &mut Record) -> u8
+#[no_mangle]
+pub extern "C" fn transfer_point_note_sent(link: &mut Record) -> u8
     ensures { λ r. ⌜ r ≡ Card.sentOne (now (link .entry)) .number ⌝ }
     ensures { λ r. ⌜ now (link .exit) ≡ Card.sentOne (now (link .entry)) .link ⌝ }
 {
@@ -86,7 +88,8 @@ pub fn note_sent(link: &mut Record) -> u8
 }
 
 // Messages up to b are acknowledged: the record is brought up to date if b is in range, and left as it was if not.
-pub fn note_acknowledged(link: &mut Record, b: u8) -> bool
+#[no_mangle]
+pub extern "C" fn transfer_point_note_acknowledged(link: &mut Record, b: u8) -> bool
     ensures { λ r. ⌜ r ≡ Card.acknowledgedTo (now (link .entry)) b .accepted ⌝ }
     ensures { λ r. ⌜ now (link .exit) ≡ Card.acknowledgedTo (now (link .entry)) b .link ⌝ }
 {

@@ -21,6 +21,7 @@ ghost use lib.Seq.{slice};
 ghost use Rattle.configuration.specs.Configure as Configure;
 
 // Fault 0 and the plan; or the first faulty line, its first fault, and a plan with no node.
+#[repr(C)]
 pub struct Configured {
     pub line: usize,
     pub fault: u8,

@@ -69,13 +69,13 @@ fn too_short() {
     let mut octets = [0u8; 52416];
     let mut arrivals = [0u64; 1];
     let made = start(
-        &CONFIGURATION,
         empty_plan(),
         &mut links,
         &mut marks,
         &mut spans,
         &mut rings,
         &mut arrivals,
+        &CONFIGURATION,
     );
     title(b"areas one too short");
     ask::each(
@@ -115,13 +115,13 @@ fn last_number() {
     let mut octets = [0u8; 52416];
     let mut arrivals = [0u64; 1];
     let made = start(
-        &CONFIGURATION,
         empty_plan(),
         &mut links,
         &mut marks,
         &mut spans,
         &mut rings,
         &mut arrivals,
+        &CONFIGURATION,
     );
     let plan = made.plan;
     title(b"the last arrival number");
@@ -161,13 +161,13 @@ fn configured_again() {
     let mut octets = [0u8; 52416];
     let mut arrivals = [0u64; 1];
     let first = start(
-        &CONFIGURATION,
         empty_plan(),
         &mut links,
         &mut marks,
         &mut spans,
         &mut rings,
         &mut arrivals,
+        &CONFIGURATION,
     );
     title(b"configured again");
     ask::step(
@@ -182,13 +182,13 @@ fn configured_again() {
         0,
     );
     let refused = start(
-        b"node\t2\t4\n",
         first.plan,
         &mut links,
         &mut marks,
         &mut spans,
         &mut rings,
         &mut arrivals,
+        b"node\t2\t4\n",
     );
     ask::show(b"configuration", refused.fault);
     ask::steps(
@@ -215,13 +215,13 @@ fn configured_again() {
         7,
     );
     let second = start(
-        &CONFIGURATION,
         refused.plan,
         &mut links,
         &mut marks,
         &mut spans,
         &mut rings,
         &mut arrivals,
+        &CONFIGURATION,
     );
     ask::show(b"configuration", second.fault);
     ask::step(

@@ -12,6 +12,7 @@ ghost use Rattle.text.specs.Part.{tab, lf};
 ghost use Rattle.listing.specs.RouteList as RouteList;
 
 // The reply, and how many octets were written: 0 but for reply 0.
+#[repr(C)]
 pub struct Listed {
     pub reply: u8,
     pub count: usize,

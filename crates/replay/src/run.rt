@@ -34,13 +34,13 @@ pub fn run(configuration: &[u8], record: File, piece: &mut [u8; 65536]) {
     let mut rings = [0u8; 8960];
     let mut arrivals = [0u64; 1];
     let made = start(
-        configuration,
         empty_plan(),
         &mut links,
         &mut marks,
         &mut spans,
         &mut rings,
         &mut arrivals,
+        configuration,
     );
     if 0 < made.fault {
         let mut out = [0u8; 64];

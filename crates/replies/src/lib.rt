@@ -2,6 +2,7 @@
 ghost use mathlib.Core.Path.{_≡_};
 ghost use Rattle.replies.specs.Reply as Reply;
 
+#[repr(C)]
 pub struct Answer {
     // The reply's number in the document's table.
     pub reply: u8,

@@ -32,13 +32,13 @@ fn empty_marks(marks: &mut [u32; 512])
 
 // The node that a text makes, or the fault and the plan that runs; a refused text touches nothing.
 pub fn start(
-    text: &[u8],
     running: Plan,
     links: &mut [u32; 256],
     marks: &mut [u32; 512],
     spans: &mut [u16; 70],
     rings: &mut [u8; 8960],
     arrivals: &mut [u64; 1],
+    text: &[u8],
 ) -> Configured
     ensures { λ r. ⌜ r ≡ Start.started (configured (now (text .entry))) running ⌝ }
     ensures { λ r. ⌜ now (links .exit) ≡ ifDone (configured (now (text .entry)) .fault) (Start.freshLinks (now (links .entry))) (now (links .entry)) ⌝ }

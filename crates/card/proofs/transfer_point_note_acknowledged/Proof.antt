@@ -1,4 +1,4 @@
--- `card::note_acknowledged` meets its contract: a walk of its MIR, by hand. The borrow is opened and the struct is copied out whole; `acknowledged_to` is called on it, with each other borrow given to the callee at its own lifetime; the struct that it returned is stored whole, and the borrow is closed at it.
+-- `card::transfer_point_note_acknowledged` meets its contract: a walk of its MIR, by hand. The borrow is opened and the struct is copied out whole; `acknowledged_to` is called on it, with each other borrow given to the callee at its own lifetime; the struct that it returned is stored whole, and the borrow is closed at it.
 -- All that the proof knows of `acknowledged_to` is that it meets its contract, and of the struct that it is plain data.
 -- Assumes nothing.
 use mathlib.Core.Path.{_≡_, refl, ap}
@@ -54,10 +54,10 @@ use Rattle.card.proofs.acknowledged_to as callee
 use Rattle.card.proofs.acknowledged_to.Symbol as callee-def
 use Rattle.card.proofs.acknowledged_to.Symbol.{name as #callee}
 use Rattle.card.proofs.acknowledged_to.Met as callee-thm
-use Rattle.card.proofs.note_acknowledged.Key.{name as #self}
-use Rattle.card.proofs.note_acknowledged as f
-use Rattle.card.proofs.note_acknowledged.Statement as stated
-use Rattle.card.proofs.note_acknowledged.Code as code
+use Rattle.card.proofs.transfer_point_note_acknowledged.Key.{name as #self}
+use Rattle.card.proofs.transfer_point_note_acknowledged as f
+use Rattle.card.proofs.transfer_point_note_acknowledged.Statement as stated
+use Rattle.card.proofs.transfer_point_note_acknowledged.Code as code
 
 abbrev stayed : Stays (f.ended .signature .params) (f.ended .kept)
 stayed = (stay-ref (0 ∷ []) tt (plain (λ _. T.the-row)), (stay-none (λ _. u8) yes, tt))
@@ -145,22 +145,22 @@ module _ {M : Type 1} (𝓤 : URA M) (H : Heap 𝓤) (A : Atoms 𝓤) (W : Given
         keep ! (0 ∷ 1 ∷ 2 ∷ 3 ∷ []) $ by ! (exits r e)))))))))))))
 
 module _ {M : Type 1} (𝓤 : URA M) (H : Heap 𝓤) (A : Atoms 𝓤) (W : Given 𝓤 H A) (at-mem : Memory → SProp 𝓤) (run : Routine → Fun 𝓤) where
-  note-acknowledged-walks : (C : Calls 𝓤 H) (Λ : Loops 𝓤 H) → FmC 𝓤 H (W .laws) C → Triple 𝓤 (C #callee) (Callee 𝓤 H A at-mem run) → Walks 𝓤 H A f.ended stayed (WpFn 𝓤 H C Λ code.function) (f.clauses 𝓤 H A at-mem run)
-  note-acknowledged-walks C Λ fm known = walked 𝓤 H A f.ended stayed (f.clauses 𝓤 H A at-mem run) (WpFn 𝓤 H C Λ code.function)
+  transfer-point-note-acknowledged-walks : (C : Calls 𝓤 H) (Λ : Loops 𝓤 H) → FmC 𝓤 H (W .laws) C → Triple 𝓤 (C #callee) (Callee 𝓤 H A at-mem run) → Walks 𝓤 H A f.ended stayed (WpFn 𝓤 H C Λ code.function) (f.clauses 𝓤 H A at-mem run)
+  transfer-point-note-acknowledged-walks C Λ fm known = walked 𝓤 H A f.ended stayed (f.clauses 𝓤 H A at-mem run) (WpFn 𝓤 H C Λ code.function)
       (λ κs. (ptr-vals, (uint-vals w8, tt))) (λ κs. (mut-tells (named 0) (κs .0) T.the-row, (uint-tells w8, tt)))
       (λ κs qs bounds a _ are. via 𝓤 _ (fst∗ 𝓤 _ (emp 𝓤)) (walk 𝓤 H A W at-mem run (κs .0) (qs .0) (a .0 .ptr .0) (a .0 .ptr .1) (a .0 .name) (a .0 .now) (a .1 .0) (are .1 .0 .1) C Λ fm known))
 
   goes : AllGo 𝓤 H A W 1 (f.signature .params) (f.ended .kept) stayed
   goes = (goes-ref 𝓤 H A W 1 0 tt (plain (λ _. T.the-row)), (goes-none 𝓤 H A W 1 (λ _. u8) yes (λ κs x f. refl), tt))
 
-note-acknowledged-meets : {M : Type 1} (𝓤 : URA M) (H : Heap 𝓤) (A : Atoms 𝓤) → Given 𝓤 H A → (at-mem : Memory → SProp 𝓤) (run : Routine → Fun 𝓤) (𝓣 : Tables 𝓤 H) → Triple 𝓤 (𝓣 .C #callee) (Callee 𝓤 H A at-mem run)
+transfer-point-note-acknowledged-meets : {M : Type 1} (𝓤 : URA M) (H : Heap 𝓤) (A : Atoms 𝓤) → Given 𝓤 H A → (at-mem : Memory → SProp 𝓤) (run : Routine → Fun 𝓤) (𝓣 : Tables 𝓤 H) → Triple 𝓤 (𝓣 .C #callee) (Callee 𝓤 H A at-mem run)
     → Meets 𝓤 H A f.signature (WpFn 𝓤 H (𝓣 .C) (𝓣 .Λ) code.function) (f.spec 𝓤 H A at-mem run)
-note-acknowledged-meets 𝓤 H A W at-mem run 𝓣 known = walk-meets 𝓤 H A f.ended stayed W (goes 𝓤 H A W at-mem run) (f.clauses 𝓤 H A at-mem run) (WpFn 𝓤 H (𝓣 .C) (𝓣 .Λ) code.function) (WpFn-mono 𝓤 H (W .laws) 𝓣 code.function) (note-acknowledged-walks 𝓤 H A W at-mem run (𝓣 .C) (𝓣 .Λ) (fmOf 𝓤 H (W .laws) 𝓣) known)
+transfer-point-note-acknowledged-meets 𝓤 H A W at-mem run 𝓣 known = walk-meets 𝓤 H A f.ended stayed W (goes 𝓤 H A W at-mem run) (f.clauses 𝓤 H A at-mem run) (WpFn 𝓤 H (𝓣 .C) (𝓣 .Λ) code.function) (WpFn-mono 𝓤 H (W .laws) 𝓣 code.function) (transfer-point-note-acknowledged-walks 𝓤 H A W at-mem run (𝓣 .C) (𝓣 .Λ) (fmOf 𝓤 H (W .laws) 𝓣) known)
 
-pub note-acknowledged-spec : {M : Type 1} → stated.statement M
+pub transfer-point-note-acknowledged-spec : {M : Type 1} → stated.statement M
 unfolding code.routine tablesOf
-note-acknowledged-spec 𝓤 H 𝓜 𝓖 𝓡 =
+transfer-point-note-acknowledged-spec 𝓤 H 𝓜 𝓖 𝓡 =
     entered 𝓤 H (tripleOf 𝓤 H (𝓖 .A) f.signature (f.spec 𝓤 H (𝓖 .A) (𝓜 .mem) (𝓡 .run)))
     (tables 𝓤 H 𝓜 𝓡 code.env .C) (tables 𝓤 H 𝓜 𝓡 code.env .Λ) #self code.function (code.unfolded 𝓤 H 𝓜 𝓡)
-    (note-acknowledged-meets 𝓤 H (𝓖 .A) (givenOf 𝓤 H 𝓜 𝓖) (𝓜 .mem) (𝓡 .run) (tablesOf 𝓤 H 𝓜 (tables 𝓤 H 𝓜 𝓡 code.env))
+    (transfer-point-note-acknowledged-meets 𝓤 H (𝓖 .A) (givenOf 𝓤 H 𝓜 𝓖) (𝓜 .mem) (𝓡 .run) (tablesOf 𝓤 H 𝓜 (tables 𝓤 H 𝓜 𝓡 code.env))
     (cited 𝓤 H (Callee 𝓤 H (𝓖 .A) (𝓜 .mem) (𝓡 .run)) 𝓜 𝓡 code.env #callee callee-def.routine code.calls-card·acknowledged-to (callee-thm.met 𝓤 H 𝓜 𝓖 𝓡)))
