@@ -12,7 +12,7 @@ use lib.Seq.{take-at, drop-at, drop-drop}
 use borrow.Author.Tests.{le-leb, leb-true}
 use borrow.Table.Steps.{cases}
 use Rattle.text.specs.Put.{room, written, past}
-use Rattle.pages.specs.Page.{Page, page, put, puts}
+use Rattle.pages.specs.Page.{Page, page, put, puts, joined}
 
 -- pieces behind pieces
 pub puts-append : (p : Page) (before behind : List (List ℕ)) → puts p (before ++ behind) ≡ puts (puts p before) behind
@@ -78,11 +78,6 @@ pub puts-length : (p : Page) (pieces : List (List ℕ)) → length (puts p piece
 unfolding puts
 puts-length p [] = refl
 puts-length p (piece ∷ more) = puts-length (put p piece) more ∙ written-length (p .area) (p .at) piece
-
--- all pieces, one behind the other
-unfoldable pub joined : List (List ℕ) → List ℕ
-joined [] = []
-joined (piece ∷ more) = piece ++ joined more
 
 -- a piece that has room is written
 fits : (area : List ℕ) (at : ℕ) (piece : List ℕ) → at + length piece ≤ length area

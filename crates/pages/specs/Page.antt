@@ -1,6 +1,6 @@
 -- An area written from a place on, piece after piece; a piece that has no room isn't written.
 use Prim.Native.Nat.{ℕ}
-use mathlib.Core.List.{List, [], _∷_}
+use mathlib.Core.List.{List, [], _∷_, _++_}
 use Rattle.text.specs.Part.{lf, tab}
 use Rattle.text.specs.Put.{written, past}
 
@@ -20,6 +20,11 @@ put p piece = page (written (p .area) (p .at) piece) (past (p .area) (p .at) pie
 unfoldable pub puts : Page → List (List ℕ) → Page
 puts p [] = p
 puts p (piece ∷ more) = puts (put p piece) more
+
+-- all pieces, one behind the other
+unfoldable pub joined : List (List ℕ) → List ℕ
+joined [] = []
+joined (piece ∷ more) = piece ++ joined more
 
 -- the end of a line, and what parts two fields
 abbrev pub ended : List ℕ

@@ -1,27 +1,30 @@
-// Makes a node from the configuration that its first argument names and the calls of the record that its second names on it, in
-// order, and writes what each answers.
+// Makes a node from the configuration that an argument names and the calls of the record that the next one names on it, in order, and writes
+// what each answers.
 mod file;
+mod options;
 mod run;
 
 use libc::STDERR_FILENO;
+use std::num::wrapping_add_usize;
 
 // Both files are read before anything is written: of the record as much as one piece holds.
 fn main() {
-    if os::arg_count() != 3 {
+    let options = options::read();
+    if !options.right {
         io::write_all(
             STDERR_FILENO,
-            b"replay: name two files: replay CONFIGURATION RECORD\n",
+            b"replay: name two files: replay [--from LINE] [--to LINE] [--only reports] CONFIGURATION RECORD\n",
         );
         return;
     }
     let mut text = io::large_buffer();
-    let configuration = file::read(1, &mut text);
+    let configuration = file::read(options.at, &mut text);
     if configuration.failed {
         return;
     }
     libc::close(configuration.fd);
     let mut first = io::large_buffer();
-    let record = file::begin(2, &mut first);
+    let record = file::begin(wrapping_add_usize(options.at, 1), &mut first);
     if record.failed {
         return;
     }
@@ -29,6 +32,7 @@ fn main() {
         text::part::between(&text, 0, configuration.count),
         record,
         &mut first,
+        options.view,
     );
     libc::close(record.fd);
 }

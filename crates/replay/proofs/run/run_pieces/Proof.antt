@@ -1,23 +1,30 @@
--- `replay::run::run_pieces` ends: its turns are counted down.
+-- `replay::run::run_pieces` ends: its turns are counted down. And the areas that it lends keep their lengths.
 -- Assumes nothing.
 use borrow.Author.Needs.{needs}
 use mathlib.Core.Path.{_≡_, refl, sym, ap, _∙_}
-use Prim.Native.Nat.{ℕ, _+_, _-_, _≤_, _<_}
+use Prim.Native.Nat.{ℕ, _≤_}
 use native.Mathlib.Omega.{arith}
-use lib.ListN.{length, take, drop, getD, length-take}
+use lib.ListN.{length}
 use Rattle.replay.proofs.run.run_pieces.Statement.{statement}
 use Rattle.replay.proofs.run.run_pieces.Tie as tie
 
+record Turning (turns₀ turns message sent reports out : ℕ) : Type 0 where
+  fewer : turns ≤ turns₀
+  message-long : message ≡ 1024
+  sent-long : sent ≡ 4096
+  reports-long : reports ≡ 1024
+  out-long : out ≡ 262144
+
 abbrev Inv-loop : tie.InvT-loop
-Inv-loop plan links₀ marks₀ spans₀ rings₀ arrivals₀ «record» piece₀ rows₀ octets₀ out₀ count₀ place₀ turns₀ links marks spans rings arrivals piece rows octets out count place turns =
-    turns ≤ turns₀
+Inv-loop plan links₀ marks₀ spans₀ rings₀ arrivals₀ «record» piece₀ view rows₀ octets₀ message₀ sent₀ reports₀ out₀ count₀ place₀ turns₀ links marks spans rings arrivals piece rows octets message sent reports out count place turns =
+    Turning turns₀ turns (length message) (length sent) (length reports) (length out)
 
 abbrev μ-loop : tie.MeasureT-loop
-μ-loop plan links₀ marks₀ spans₀ rings₀ arrivals₀ «record» piece₀ rows₀ octets₀ out₀ count₀ place₀ turns₀ links marks spans rings arrivals piece rows octets out count place turns =
+μ-loop plan links₀ marks₀ spans₀ rings₀ arrivals₀ «record» piece₀ view rows₀ octets₀ message₀ sent₀ reports₀ out₀ count₀ place₀ turns₀ links marks spans rings arrivals piece rows octets message sent reports out count place turns =
     turns
 
 loop-holds : tie.Need-loop-holds Inv-loop μ-loop
-loop-holds c = search needs
+loop-holds c = record { fewer = omega arith; message-long = refl; sent-long = refl; reports-long = refl; out-long = refl }
 
 sub-turns : tie.Need-sub-turns Inv-loop μ-loop
 sub-turns c = search needs
@@ -25,8 +32,38 @@ sub-turns c = search needs
 between-requires : tie.Need-between-requires Inv-loop μ-loop
 between-requires c κs = search needs
 
+slice-aggregate-run-lines : tie.Need-slice-aggregate-run-lines Inv-loop μ-loop
+slice-aggregate-run-lines c = omega (arith, c .before .before .before .before .before .before .before .before .before .before .before .before .loop .inv)
+
+slice-aggregate-run-lines-2 : tie.Need-slice-aggregate-run-lines-2 Inv-loop μ-loop
+slice-aggregate-run-lines-2 c = omega (arith, c .before .before .before .before .before .before .before .before .before .before .before .before .before .loop .inv)
+
+slice-aggregate-run-lines-3 : tie.Need-slice-aggregate-run-lines-3 Inv-loop μ-loop
+slice-aggregate-run-lines-3 c = omega (arith, c .before .before .before .before .before .before .before .before .before .before .before .before .before .before .loop .inv)
+
+slice-aggregate-run-lines-4 : tie.Need-slice-aggregate-run-lines-4 Inv-loop μ-loop
+slice-aggregate-run-lines-4 c = omega (arith, c .before .before .before .before .before .before .before .before .before .before .before .before .before .before .before .loop .inv)
+
 run-lines-requires : tie.Need-run-lines-requires Inv-loop μ-loop
 run-lines-requires c κs = search needs
+
+write-out-requires : tie.Need-write-out-requires Inv-loop μ-loop
+write-out-requires c κs = search needs
+
+loop-less : tie.Need-loop-less Inv-loop μ-loop
+loop-less c = omega (arith, c .before .before .before .before .before .before .before .before .before .before .before .before .before .before .before .before .before .before .before .before .before .before .before .before .before .before .loop-test .taken)
+
+loop-again : tie.Need-loop-again Inv-loop μ-loop
+loop-again c =
+    let kept = c .before .before .before .before .before .before .before .before .before .before .before .run-lines in
+    let held = c .before .before .before .before .before .before .before .before .before .before .before .before .before .before .before .before .before .before .before .before .before .before .before .before .before .before .before .loop .inv in
+    record {
+      fewer = omega (arith, held .fewer);
+      message-long = omega (arith, kept, held .message-long);
+      sent-long = omega (arith, kept, held .sent-long);
+      reports-long = omega (arith, kept, held .reports-long);
+      out-long = omega (arith, kept, held .out-long);
+    }
 
 move-to-front-requires : tie.Need-move-to-front-requires Inv-loop μ-loop
 move-to-front-requires c κs = search needs
@@ -40,21 +77,29 @@ end-requires c κs = search needs
 wrapping-add-usize-requires : tie.Need-wrapping-add-usize-requires Inv-loop μ-loop
 wrapping-add-usize-requires c κs = search needs
 
-loop-less : tie.Need-loop-less Inv-loop μ-loop
-loop-less c =
-    let left = c .before .before .before .before .before .before .before .before .before .before .before .before .before .before .before .before .before .before .before .before .before .before .loop-test .taken in
-    omega (arith, left)
+loop-less-2 : tie.Need-loop-less-2 Inv-loop μ-loop
+loop-less-2 c = omega (arith, c .before .before .before .before .before .before .before .before .before .before .before .before .before .before .before .before .before .before .before .before .before .before .before .before .before .before .before .before .before .before .before .before .before .before .loop-test .taken)
 
-loop-again : tie.Need-loop-again Inv-loop μ-loop
-loop-again c =
-    let fewer = c .before .before .before .before .before .before .before .before .before .before .before .before .before .before .before .before .before .before .before .before .before .before .before .loop .inv in
-    omega (arith, fewer)
-
-write-all-requires : tie.Need-write-all-requires Inv-loop μ-loop
-write-all-requires c κs = search needs
+loop-again-2 : tie.Need-loop-again-2 Inv-loop μ-loop
+loop-again-2 c =
+    let kept = c .before .before .before .before .before .before .before .before .before .before .before .before .before .before .before .before .before .before .before .run-lines in
+    let held = c .before .before .before .before .before .before .before .before .before .before .before .before .before .before .before .before .before .before .before .before .before .before .before .before .before .before .before .before .before .before .before .before .before .before .before .loop .inv in
+    record {
+      fewer = omega (arith, held .fewer);
+      message-long = omega (arith, kept, held .message-long);
+      sent-long = omega (arith, kept, held .sent-long);
+      reports-long = omega (arith, kept, held .reports-long);
+      out-long = omega (arith, kept, held .out-long);
+    }
 
 returns : tie.Need-returns Inv-loop μ-loop
 returns c = search needs
+
+returns-2 : tie.Need-returns-2 Inv-loop μ-loop
+returns-2 c = search needs
+
+returns-3 : tie.Need-returns-3 Inv-loop μ-loop
+returns-3 c = search needs
 
 pub run-pieces-spec : {M : Type 1} → statement M
 run-pieces-spec =
@@ -65,12 +110,20 @@ run-pieces-spec =
     loop-holds
     sub-turns
     between-requires
+    slice-aggregate-run-lines
+    slice-aggregate-run-lines-2
+    slice-aggregate-run-lines-3
+    slice-aggregate-run-lines-4
     run-lines-requires
+    write-out-requires
+    loop-less
+    loop-again
     move-to-front-requires
     more-requires
     end-requires
     wrapping-add-usize-requires
-    loop-less
-    loop-again
-    write-all-requires
-    returns)
+    loop-less-2
+    loop-again-2
+    returns
+    returns-2
+    returns-3)

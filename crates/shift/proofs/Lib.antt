@@ -1,0 +1,7 @@
+pub mod Shown
+pub mod Room
+pub mod OnPage
+pub mod Lines
+pub mod Running
+pub mod Going
+pub mod Whole
