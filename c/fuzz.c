@@ -264,6 +264,22 @@ static void open_links(void) {
         node->arrivals[0] = (UINT64_C(1) << 63) - 1 - below(200);
 }
 
+/* A line kept: with an LF at its end and nowhere else, or nothing. */
+static void keep_line(void) {
+    struct lent lent = {.out = (size_t)below(700), .message = (size_t)below(320)};
+    noise(message_area.end - lent.message, lent.message);
+    keep(out_area, lent.out);
+    uint8_t *line = out_area.end - lent.out;
+    size_t length = transfer_point_keep(line, lent.out, (enum transfer_point_kind)below(16), number(300), number(300),
+        message_area.end - lent.message, lent.message);
+    trying = "keep";
+    calls++;
+    if (!untouched(out_area, lent.out, length))
+        wrong("the line is written beyond what is said");
+    if (length > 0 && memchr(line, '\n', length) != line + length - 1)
+        wrong("a line that doesn't end once");
+}
+
 static void start(void) {
     static uint8_t text[LENT];
     size_t count = make_text(text);
@@ -326,6 +342,8 @@ int main(int count, char **arguments) {
         for (unsigned i = 0; i < CALLS; i++)
             if (i == 0 || once_in(1000))
                 start();
+            else if (once_in(50))
+                keep_line();
             else
                 call();
     } while (time(NULL) < until);

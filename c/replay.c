@@ -1,9 +1,9 @@
 /*
  * A host that reads its calls from a record and writes what each answers, as the proved program `replay` does:
  *
- *     replay CONFIGURATION RECORD
+ *     replay CONFIGURATION RECORD [KEPT]
  *
- * It shows every call of the library; docs/FORMATS.md has the texts.
+ * It shows every call of the library; docs/FORMATS.md has the texts. With a third name it keeps its shift there, as a host of its own would.
  */
 #include "transfer_point.h"
 
@@ -19,7 +19,7 @@ static struct transfer_point node;
 static uint64_t reports[TRANSFER_POINT_REPORTS];
 static uint8_t out[TRANSFER_POINT_ROUTE_LIST];
 
-/* What stands behind each kind: numbers, and behind them perhaps octets. */
+/* What stands behind each kind: numbers, and behind them perhaps octets. The kinds stand in the order of `enum transfer_point_kind`. */
 enum kind { SERVICE, FAILURE, SEND, ACK, RECEIVED, HOST, T1, T2, T3, T4, T6, T8, T10, ROUTES, KINDS };
 
 static const struct {
@@ -193,7 +193,15 @@ static void put_answer(uint64_t number, const struct call *call, struct transfer
     put_reports(number, answer.reports);
 }
 
-static void run(FILE *record) {
+/* The call's own line, for the shift's record. */
+static void keep(FILE *kept, const struct call *call) {
+    uint8_t line[TRANSFER_POINT_LINE];
+    size_t length = transfer_point_keep(
+        line, sizeof line, (enum transfer_point_kind)call->kind, call->numbers[0], call->numbers[1], call->message, call->length);
+    fwrite(line, 1, length, kept);
+}
+
+static void run(FILE *record, FILE *kept) {
     static struct call call;
     char *line = NULL;
     size_t room = 0;
@@ -203,6 +211,8 @@ static void run(FILE *record) {
             printf("%" PRIu64 "\trefused\t30\n", number);
             break;
         }
+        if (kept)
+            keep(kept, &call);
         put_answer(number, &call, make(&call));
         if (number % 1000000 == 0)
             fprintf(stderr, "replay: %" PRIu64 " lines\n", number);
@@ -212,8 +222,8 @@ static void run(FILE *record) {
 
 int main(int count, char **arguments) {
     static uint8_t text[TRANSFER_POINT_CONFIGURATION + 1];
-    if (count != 3) {
-        fputs("replay: name two files: replay CONFIGURATION RECORD\n", stderr);
+    if (count != 3 && count != 4) {
+        fputs("replay: name two files, and a third to keep the shift in: replay CONFIGURATION RECORD [KEPT]\n", stderr);
         return 1;
     }
     FILE *configuration = fopen(arguments[1], "rb");
@@ -226,11 +236,16 @@ int main(int count, char **arguments) {
     FILE *record = fopen(arguments[2], "rb");
     if (!record)
         return fail("can't open", arguments[2]);
+    FILE *kept = count == 4 ? fopen(arguments[3], "wb") : NULL;
+    if (count == 4 && !kept)
+        return fail("can't write", arguments[3]);
     struct transfer_point_fault fault = transfer_point_start(&node, text, length);
     if (fault.fault != 0)
         printf("config\t%zu\t%u\n", fault.line, fault.fault);
     else
-        run(record);
+        run(record, kept);
     fclose(record);
+    if (kept && fclose(kept) != 0)
+        return fail("can't write", arguments[3]);
     return fflush(stdout) == 0 ? 0 : fail("can't write", "standard output");
 }

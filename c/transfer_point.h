@@ -340,4 +340,35 @@ uint8_t transfer_point_note_sent(struct transfer_point_record *);
 /* Whether the number is in range; if so it is the last acknowledged from now on, if not the record is unchanged. */
 bool transfer_point_note_acknowledged(struct transfer_point_record *, uint8_t number);
 
+/* ---- A shift kept: the line of a call in a record that `replay` runs again, proved to read back as that call */
+
+enum transfer_point_kind {
+    TRANSFER_POINT_KEEP_SERVICE,   /* link */
+    TRANSFER_POINT_KEEP_FAILURE,   /* link */
+    TRANSFER_POINT_KEEP_SEND,      /* link */
+    TRANSFER_POINT_KEEP_ACK,       /* link, number */
+    TRANSFER_POINT_KEEP_RECEIVED,  /* link, FSN, and the message */
+    TRANSFER_POINT_KEEP_HOST,      /* the message */
+    TRANSFER_POINT_KEEP_T1,        /* link */
+    TRANSFER_POINT_KEEP_T2,        /* link */
+    TRANSFER_POINT_KEEP_T3,        /* link */
+    TRANSFER_POINT_KEEP_T4,        /* link */
+    TRANSFER_POINT_KEEP_T6,        /* destination */
+    TRANSFER_POINT_KEEP_T8,        /* destination */
+    TRANSFER_POINT_KEEP_T10,       /* destination, set */
+    TRANSFER_POINT_KEEP_ROUTES,
+};
+
+enum { TRANSFER_POINT_LINE = 18 + 2 * 1024 };  /* room for the longest line, which carries 1,024 octets */
+
+size_t transfer_point_keep_lent(uint8_t *out, size_t room, uint8_t kind, uint16_t first, uint8_t second, const uint8_t *message, size_t length);
+
+/* Writes the line of a call, with its LF, at the start of `out`, and gives its length; 0 where it has no room or the message is too long. */
+static inline size_t transfer_point_keep(uint8_t *out, size_t room, enum transfer_point_kind kind, uint64_t first, uint64_t second,
+    const uint8_t *message, size_t length) {
+    uint8_t *to = transfer_point_area(out, &room);
+    const uint8_t *from = transfer_point_area(message, &length);
+    return transfer_point_keep_lent(to, room, transfer_point_8(kind), transfer_point_16(first), transfer_point_8(second), from, length);
+}
+
 #endif

@@ -1,3 +1,4 @@
 pub mod Fields
 pub mod ReadsBack
 pub mod Room
+pub mod KeptBack

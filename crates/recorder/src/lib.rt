@@ -1,4 +1,6 @@
 // The line of a record for a call, so that a host can keep its shift: what `record` reads, written.
+pub mod keep;
+
 use node::call::Event;
 use octets::hex::put_hex;
 use pages::number::put_number;

@@ -1,8 +1,10 @@
 // Makes a node from the configuration that an argument names and the calls of the record that the next one names on it, in order, and writes
 // what each answers.
+mod capture;
 mod file;
 mod options;
 mod run;
+mod summary;
 
 use libc::STDERR_FILENO;
 use std::num::wrapping_add_usize;
@@ -13,7 +15,7 @@ fn main() {
     if !options.right {
         io::write_all(
             STDERR_FILENO,
-            b"replay: name two files: replay [--from LINE] [--to LINE] [--only reports] CONFIGURATION RECORD\n",
+            b"replay: name two files: replay [--from LINE] [--to LINE] [--only reports] [--summary] [--pcap FILE] CONFIGURATION RECORD\n",
         );
         return;
     }
@@ -28,11 +30,20 @@ fn main() {
     if record.failed {
         return;
     }
+    let mut fd = -1;
+    if 0 < options.capture {
+        fd = capture::begin(options.capture);
+        if fd < 0 {
+            return;
+        }
+    }
     run::run(
         text::part::between(&text, 0, configuration.count),
         record,
         &mut first,
         options.view,
+        options.summary,
+        fd,
     );
     libc::close(record.fd);
 }

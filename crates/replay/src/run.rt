@@ -1,6 +1,8 @@
 // The calls of a record, in order, read piece by piece.
+use crate::capture;
 use crate::file::File;
 use crate::file::more;
+use crate::summary;
 use libc::STDERR_FILENO;
 use libc::STDOUT_FILENO;
 use pages::refusal::put_fault;
@@ -15,7 +17,14 @@ use std::num::wrapping_add_usize;
 use text::part::between;
 
 // The node that a configuration makes, and the calls of a record on it, of which the first piece is read.
-pub fn run(configuration: &[u8], record: File, piece: &mut [u8; 65536], view: View) {
+pub fn run(
+    configuration: &[u8],
+    record: File,
+    piece: &mut [u8; 65536],
+    view: View,
+    counted: bool,
+    packets: i32,
+) {
     let mut links = [0u32; 256];
     let mut marks = [0u32; 512];
     let mut spans = [0u16; 70];
@@ -46,6 +55,8 @@ pub fn run(configuration: &[u8], record: File, piece: &mut [u8; 65536], view: Vi
         record,
         piece,
         view,
+        counted,
+        packets,
     );
 }
 
@@ -61,6 +72,8 @@ fn run_pieces(
     record: File,
     piece: &mut [u8; 65536],
     view: View,
+    counted: bool,
+    packets: i32,
 ) {
     let mut rows = [0u64; 2048];
     let mut octets = [0u8; 52416];
@@ -68,6 +81,7 @@ fn run_pieces(
     let mut sent = [0u8; 4096];
     let mut reports = [0u64; 1024];
     let mut out = [0u8; 262144];
+    let mut counts = [0u64; 17];
     let mut count = record.count;
     let mut place = Place {
         at: 0,
@@ -96,6 +110,17 @@ fn run_pieces(
             &mut reports,
             &mut out,
         );
+        if counted {
+            summary::count(between(&out, 0, place.pending), &mut counts);
+        }
+        if 0 <= packets {
+            capture::take(
+                packets,
+                between(piece, before.at, place.at),
+                before.number,
+                between(&out, 0, place.pending),
+            );
+        }
         place = write_out(before.number, place, &out);
         if !place.readable {
             break;
@@ -111,6 +136,9 @@ fn run_pieces(
         }
         count = wrapping_add_usize(rest, next.count);
         place.at = 0;
+    }
+    if counted {
+        summary::write(&counts);
     }
 }
 

@@ -12,6 +12,7 @@ use borrow.Table.Steps.{cases}
 use Rattle.text.specs.Part.{split, onFirst, lf}
 use Rattle.numerals.specs.Decimal.{decimalOf, digitsOn}
 use Rattle.octets.specs.Hex.{hexOf}
+use Rattle.octets.proofs.Octets.{hex-length}
 use Rattle.wire.specs.Header.{afterLabel}
 use Rattle.replies.specs.declared.Answer.{Answer}
 use Rattle.node.specs.declared.call.Event.{Event}
@@ -43,11 +44,6 @@ digits-long (suc most) n rest =
 
 decimal-long : (n : ℕ) → length (decimalOf n) ≤ 20
 decimal-long n = digits-long 20 n []
-
-hex-long : (octets : List ℕ) → length (hexOf octets) ≡ 2 * length octets
-unfolding hexOf
-hex-long [] = refl
-hex-long (x ∷ rest) = omega (arith, hex-long rest)
 
 -- a record of the report area
 report-long : (number kind about : ℕ) → length (joined (reported number kind about)) ≤ 70
@@ -150,7 +146,7 @@ behind-long Sent answer message out short h =
       arith,
       h,
       slice-long (answer .octets) out,
-      hex-long octets,
+      hex-length octets,
       decimal-long (answer .fsn),
       piece-long parted (decimalOf (answer .fsn) ∷ parted ∷ hexOf octets ∷ []),
       piece-long (decimalOf (answer .fsn)) (parted ∷ hexOf octets ∷ []),
@@ -163,7 +159,7 @@ behind-long Delivered answer message out short h =
     cases (answer .delivers)
     (λ e.
     simp e
-    (omega (arith, short, length-drop 5 message, hex-long octets, piece-long parted (hexOf octets ∷ []), piece-long (hexOf octets) [])))
+    (omega (arith, short, length-drop 5 message, hex-length octets, piece-long parted (hexOf octets ∷ []), piece-long (hexOf octets) [])))
     (λ e. simp e (omega arith))
 behind-long Listed answer message out short h = omega arith
 behind-long Nothing answer message out short h = omega arith

@@ -32,8 +32,8 @@ loop-less c = omega (arith, c .before .before .before .before .loop-test .taken)
 loop-again : tie.Need-loop-again Inv-loop μ-loop
 loop-again c = search needs
 
-wrapping-add-usize-requires-2 : tie.Need-wrapping-add-usize-requires-2 Inv-loop μ-loop
-wrapping-add-usize-requires-2 c κs = search needs
+complete-requires : tie.Need-complete-requires Inv-loop μ-loop
+complete-requires c κs = search needs
 
 returns : tie.Need-returns Inv-loop μ-loop
 returns c = search needs
@@ -54,6 +54,6 @@ read-spec =
     with-option-requires
     loop-less
     loop-again
-    wrapping-add-usize-requires-2
+    complete-requires
     returns
     returns-2)

@@ -16,11 +16,11 @@ record Turning (turns₀ turns message sent reports out : ℕ) : Type 0 where
   out-long : out ≡ 262144
 
 abbrev Inv-loop : tie.InvT-loop
-Inv-loop plan links₀ marks₀ spans₀ rings₀ arrivals₀ «record» piece₀ view rows₀ octets₀ message₀ sent₀ reports₀ out₀ count₀ place₀ turns₀ links marks spans rings arrivals piece rows octets message sent reports out count place turns =
+Inv-loop plan links₀ marks₀ spans₀ rings₀ arrivals₀ «record» piece₀ view counted packets rows₀ octets₀ message₀ sent₀ reports₀ out₀ counts₀ count₀ place₀ turns₀ links marks spans rings arrivals piece rows octets message sent reports out counts count place turns =
     Turning turns₀ turns (length message) (length sent) (length reports) (length out)
 
 abbrev μ-loop : tie.MeasureT-loop
-μ-loop plan links₀ marks₀ spans₀ rings₀ arrivals₀ «record» piece₀ view rows₀ octets₀ message₀ sent₀ reports₀ out₀ count₀ place₀ turns₀ links marks spans rings arrivals piece rows octets message sent reports out count place turns =
+μ-loop plan links₀ marks₀ spans₀ rings₀ arrivals₀ «record» piece₀ view counted packets rows₀ octets₀ message₀ sent₀ reports₀ out₀ counts₀ count₀ place₀ turns₀ links marks spans rings arrivals piece rows octets message sent reports out counts count place turns =
     turns
 
 loop-holds : tie.Need-loop-holds Inv-loop μ-loop
@@ -47,16 +47,37 @@ slice-aggregate-run-lines-4 c = omega (arith, c .before .before .before .before 
 run-lines-requires : tie.Need-run-lines-requires Inv-loop μ-loop
 run-lines-requires c κs = search needs
 
+slice-aggregate-between : tie.Need-slice-aggregate-between Inv-loop μ-loop
+slice-aggregate-between c = omega (arith, c .before .before .before .before .before .before .run-lines, c .before .before .before .before .before .before .before .before .before .before .before .before .before .before .before .before .before .before .before .before .before .before .loop .inv)
+
+between-requires-2 : tie.Need-between-requires-2 Inv-loop μ-loop
+between-requires-2 c κs = search needs
+
+count-requires : tie.Need-count-requires Inv-loop μ-loop
+count-requires c κs = search needs
+
+between-requires-3 : tie.Need-between-requires-3 Inv-loop μ-loop
+between-requires-3 c κs = search needs
+
+slice-aggregate-between-2 : tie.Need-slice-aggregate-between-2 Inv-loop μ-loop
+slice-aggregate-between-2 c = omega (arith, c .before .before .before .before .before .before .before .before .before .before .run-lines, c .before .before .before .before .before .before .before .before .before .before .before .before .before .before .before .before .before .before .before .before .before .before .before .before .before .before .loop .inv)
+
+between-requires-4 : tie.Need-between-requires-4 Inv-loop μ-loop
+between-requires-4 c κs = search needs
+
+take-requires : tie.Need-take-requires Inv-loop μ-loop
+take-requires c κs = search needs
+
 write-out-requires : tie.Need-write-out-requires Inv-loop μ-loop
 write-out-requires c κs = search needs
 
 loop-less : tie.Need-loop-less Inv-loop μ-loop
-loop-less c = omega (arith, c .before .before .before .before .before .before .before .before .before .before .before .before .before .before .before .before .before .before .before .before .before .before .before .before .before .before .loop-test .taken)
+loop-less c = omega (arith, c .before .before .before .before .before .before .before .before .before .before .before .before .before .before .before .before .before .before .before .before .before .before .before .before .before .before .before .before .loop-test .taken)
 
 loop-again : tie.Need-loop-again Inv-loop μ-loop
 loop-again c =
-    let kept = c .before .before .before .before .before .before .before .before .before .before .before .run-lines in
-    let held = c .before .before .before .before .before .before .before .before .before .before .before .before .before .before .before .before .before .before .before .before .before .before .before .before .before .before .before .loop .inv in
+    let kept = c .before .before .before .before .before .before .before .before .before .before .before .before .before .run-lines in
+    let held = c .before .before .before .before .before .before .before .before .before .before .before .before .before .before .before .before .before .before .before .before .before .before .before .before .before .before .before .before .before .loop .inv in
     record {
       fewer = omega (arith, held .fewer);
       message-long = omega (arith, kept, held .message-long);
@@ -78,12 +99,12 @@ wrapping-add-usize-requires : tie.Need-wrapping-add-usize-requires Inv-loop μ-l
 wrapping-add-usize-requires c κs = search needs
 
 loop-less-2 : tie.Need-loop-less-2 Inv-loop μ-loop
-loop-less-2 c = omega (arith, c .before .before .before .before .before .before .before .before .before .before .before .before .before .before .before .before .before .before .before .before .before .before .before .before .before .before .before .before .before .before .before .before .before .before .loop-test .taken)
+loop-less-2 c = omega (arith, c .before .before .before .before .before .before .before .before .before .before .before .before .before .before .before .before .before .before .before .before .before .before .before .before .before .before .before .before .before .before .before .before .before .before .before .before .loop-test .taken)
 
 loop-again-2 : tie.Need-loop-again-2 Inv-loop μ-loop
 loop-again-2 c =
-    let kept = c .before .before .before .before .before .before .before .before .before .before .before .before .before .before .before .before .before .before .before .run-lines in
-    let held = c .before .before .before .before .before .before .before .before .before .before .before .before .before .before .before .before .before .before .before .before .before .before .before .before .before .before .before .before .before .before .before .before .before .before .before .loop .inv in
+    let kept = c .before .before .before .before .before .before .before .before .before .before .before .before .before .before .before .before .before .before .before .before .before .run-lines in
+    let held = c .before .before .before .before .before .before .before .before .before .before .before .before .before .before .before .before .before .before .before .before .before .before .before .before .before .before .before .before .before .before .before .before .before .before .before .before .before .loop .inv in
     record {
       fewer = omega (arith, held .fewer);
       message-long = omega (arith, kept, held .message-long);
@@ -92,14 +113,14 @@ loop-again-2 c =
       out-long = omega (arith, kept, held .out-long);
     }
 
+write-requires : tie.Need-write-requires Inv-loop μ-loop
+write-requires c κs = search needs
+
 returns : tie.Need-returns Inv-loop μ-loop
 returns c = search needs
 
 returns-2 : tie.Need-returns-2 Inv-loop μ-loop
 returns-2 c = search needs
-
-returns-3 : tie.Need-returns-3 Inv-loop μ-loop
-returns-3 c = search needs
 
 pub run-pieces-spec : {M : Type 1} → statement M
 run-pieces-spec =
@@ -115,6 +136,13 @@ run-pieces-spec =
     slice-aggregate-run-lines-3
     slice-aggregate-run-lines-4
     run-lines-requires
+    slice-aggregate-between
+    between-requires-2
+    count-requires
+    between-requires-3
+    slice-aggregate-between-2
+    between-requires-4
+    take-requires
     write-out-requires
     loop-less
     loop-again
@@ -124,6 +152,6 @@ run-pieces-spec =
     wrapping-add-usize-requires
     loop-less-2
     loop-again-2
+    write-requires
     returns
-    returns-2
-    returns-3)
+    returns-2)
