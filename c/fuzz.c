@@ -198,56 +198,77 @@ static void see(const char *what, struct transfer_point_answer answer, unsigned 
         wrong("a refused call changes the node");
 }
 
-static void call(void) {
-    struct lent lent = {.out = length(TRANSFER_POINT_MESSAGE, LENT), .words = length(TRANSFER_POINT_REPORTS, LENT / 8)};
-    static const uint8_t kinds[] = {2, 2, 2, 3, 3, 0, 0, 1, 4, 4, 4, 4, 4, 4, 4, 5, 5, 5, 5, 5, 5, 5, 6, 7, 8, 9, 10};
-    size_t unsent = seed % 8 == 1 ? 5 : 0; /* nothing leaves, so that the node fills */
-    unsigned kind = kinds[unsent + below(sizeof kinds - unsent)];
-    if (kind == 10)
-        lent.out = length(TRANSFER_POINT_ROUTE_LIST, LENT);
+/* What a call is handed: numbers, and areas with their lengths. */
+struct handed {
+    struct lent lent;
+    uint64_t link, code, set, fsn, acknowledged;
+    uint8_t *message, *out;
+    uint64_t *reports;
+};
+
+static struct handed hand(unsigned kind) {
     uint8_t made[300];
-    lent.message = make_message(made, kind == 5 ? !once_in(8) : once_in(8));
-    uint8_t *message = lent.message == 0 && once_in(2) ? NULL : memcpy(message_area.end - lent.message, made, lent.message);
-    uint8_t *out = once_in(40) ? NULL : out_area.end - lent.out;
-    uint64_t *reports = once_in(40) ? NULL : (uint64_t *)(void *)(reports_area.end - 8 * lent.words);
-    uint64_t link = number(32), code = once_in(4) ? number(16384) : 8 + below(22), set = number(8);
-    uint64_t fsn = once_in(2) ? number(128) : (node->links[8 * (link % 32) + 2] + 1) % 128;
-    uint64_t acknowledged = once_in(2) ? number(128) : (node->links[8 * (link % 32) + 1] + below(4)) % 128;
+    struct handed h = {.lent = {.words = length(TRANSFER_POINT_REPORTS, LENT / 8)}, .link = number(32), .set = number(8)};
+    h.lent.out = length(kind == 10 ? TRANSFER_POINT_ROUTE_LIST : TRANSFER_POINT_MESSAGE, LENT);
+    h.lent.message = make_message(made, kind == 5 ? !once_in(8) : once_in(8));
+    h.message = h.lent.message == 0 && once_in(2) ? NULL : memcpy(message_area.end - h.lent.message, made, h.lent.message);
+    h.out = once_in(40) ? NULL : out_area.end - h.lent.out;
+    h.reports = once_in(40) ? NULL : (uint64_t *)(void *)(reports_area.end - 8 * h.lent.words);
+    h.code = once_in(4) ? number(16384) : 8 + below(22);
+    h.fsn = once_in(2) ? number(128) : (node->links[8 * (h.link % 32) + 2] + 1) % 128;
+    h.acknowledged = once_in(2) ? number(128) : (node->links[8 * (h.link % 32) + 1] + below(4)) % 128;
+    return h;
+}
+
+static void keep_all(struct lent lent) {
     keep(node_area, sizeof *node);
     keep(out_area, lent.out);
     keep(reports_area, 8 * lent.words);
     keep(message_area, lent.message);
+}
+
+static void on_a_link(unsigned kind, struct handed h) {
     switch (kind) {
-    case 0: see("service", transfer_point_into_service(node, link, reports, lent.words), ON_A_LINK | REPLY(8) | REPLY(10), UNCHANGED, lent); break;
-    case 1: see("failure", transfer_point_failure(node, link, reports, lent.words), ON_A_LINK, UNCHANGED, lent); break;
-    case 2: see("send", transfer_point_send(node, link, out, lent.out), ON_A_LINK, UNCHANGED, lent); break;
-    case 3: see("ack", transfer_point_acknowledgement(node, link, acknowledged), ON_A_LINK | REPLY(6), UNCHANGED, lent); break;
-    case 4:
-        see("received", transfer_point_received(node, link, fsn, message, lent.message, reports, lent.words), FROM_A_LINK, UNCHANGED, lent);
-        break;
-    case 5: see("host", transfer_point_from_host(node, message, lent.message), FROM_THE_HOST, FROM_THE_HOST & ~REPLY(0), lent); break;
-    case 6:
-        see("t1", transfer_point_t1(node, link, reports, lent.words), ON_A_LINK, UNCHANGED, lent);
-        keep(node_area, sizeof *node);
-        keep(reports_area, 8 * lent.words);
-        see("t2", transfer_point_t2(node, link, reports, lent.words), ON_A_LINK, UNCHANGED, lent);
-        break;
-    case 7:
-        see("t3", transfer_point_t3(node, link), ON_A_LINK, UNCHANGED, lent);
-        keep(node_area, sizeof *node);
-        see("t4", transfer_point_t4(node, link), ON_A_LINK, UNCHANGED, lent);
-        break;
-    case 8:
-        see("t6", transfer_point_t6(node, code, reports, lent.words), ON_A_LINK, UNCHANGED, lent);
-        keep(node_area, sizeof *node);
-        see("t8", transfer_point_t8(node, code), ON_A_LINK, UNCHANGED, lent);
-        break;
-    case 9: see("t10", transfer_point_t10(node, code, set), ON_A_LINK | REPLY(8) | REPLY(10), UNCHANGED, lent); break;
-    default: see("routes", transfer_point_routes(node, out, lent.out), REPLY(0) | REPLY(1) | REPLY(2), REPLY(0) | UNCHANGED, lent);
+    case 0: see("service", transfer_point_into_service(node, h.link, h.reports, h.lent.words), ON_A_LINK | REPLY(8) | REPLY(10), UNCHANGED, h.lent); break;
+    case 1: see("failure", transfer_point_failure(node, h.link, h.reports, h.lent.words), ON_A_LINK, UNCHANGED, h.lent); break;
+    case 2: see("send", transfer_point_send(node, h.link, h.out, h.lent.out), ON_A_LINK, UNCHANGED, h.lent); break;
+    case 3: see("ack", transfer_point_acknowledgement(node, h.link, h.acknowledged), ON_A_LINK | REPLY(6), UNCHANGED, h.lent); break;
+    default: see("received", transfer_point_received(node, h.link, h.fsn, h.message, h.lent.message, h.reports, h.lent.words), FROM_A_LINK, UNCHANGED, h.lent);
     }
-    (void)transfer_point_link_timer_runs(node, link, (enum transfer_point_timer)below(12));
-    (void)transfer_point_destination_timer_runs(node, code, (enum transfer_point_timer)below(12));
-    (void)transfer_point_route_timer_runs(node, code, set);
+}
+
+static void expiry(unsigned kind, struct handed h) {
+    switch (kind) {
+    case 6: see("t1", transfer_point_t1(node, h.link, h.reports, h.lent.words), ON_A_LINK, UNCHANGED, h.lent); break;
+    case 7: see("t3", transfer_point_t3(node, h.link), ON_A_LINK, UNCHANGED, h.lent); break;
+    case 8: see("t6", transfer_point_t6(node, h.code, h.reports, h.lent.words), ON_A_LINK, UNCHANGED, h.lent); break;
+    default: see("t10", transfer_point_t10(node, h.code, h.set), ON_A_LINK | REPLY(8) | REPLY(10), UNCHANGED, h.lent); return;
+    }
+    keep_all(h.lent);
+    switch (kind) {
+    case 6: see("t2", transfer_point_t2(node, h.link, h.reports, h.lent.words), ON_A_LINK, UNCHANGED, h.lent); break;
+    case 7: see("t4", transfer_point_t4(node, h.link), ON_A_LINK, UNCHANGED, h.lent); break;
+    default: see("t8", transfer_point_t8(node, h.code), ON_A_LINK, UNCHANGED, h.lent);
+    }
+}
+
+static void call(void) {
+    static const uint8_t kinds[] = {2, 2, 2, 3, 3, 0, 0, 1, 4, 4, 4, 4, 4, 4, 4, 5, 5, 5, 5, 5, 5, 5, 6, 7, 8, 9, 10};
+    size_t unsent = seed % 8 == 1 ? 5 : 0; /* nothing leaves, so that the node fills */
+    unsigned kind = kinds[unsent + below(sizeof kinds - unsent)];
+    struct handed h = hand(kind);
+    keep_all(h.lent);
+    if (kind < 5)
+        on_a_link(kind, h);
+    else if (kind == 5)
+        see("host", transfer_point_from_host(node, h.message, h.lent.message), FROM_THE_HOST, FROM_THE_HOST & ~REPLY(0), h.lent);
+    else if (kind < 10)
+        expiry(kind, h);
+    else
+        see("routes", transfer_point_routes(node, h.out, h.lent.out), REPLY(0) | REPLY(1) | REPLY(2), REPLY(0) | UNCHANGED, h.lent);
+    (void)transfer_point_link_timer_runs(node, h.link, (enum transfer_point_timer)below(12));
+    (void)transfer_point_destination_timer_runs(node, h.code, (enum transfer_point_timer)below(12));
+    (void)transfer_point_route_timer_runs(node, h.code, h.set);
 }
 
 /* Most links come into service, and those that wait open; of some nodes nearly all arrival numbers are gone. */
