@@ -1,5 +1,6 @@
 // The least that a transfer point must do with the messages of `bench`: read the label, look the link up, copy the message into a
-// slot, queue it, take it off, copy it out, free the slot. It knows no states, no numbers and no management.
+// slot, queue it, take it off, copy it out, free the slot. It knows no states, no numbers and no management. And the walk round a set, which
+// `choosing` is timed beside.
 #include <stdint.h>
 #include <stdio.h>
 #include <stdlib.h>
@@ -25,6 +26,10 @@ size_t letter_size = 40, order_size = 7;
 static uint8_t ways[CODES][16];
 static unsigned own, ni, last, adjacent[SETS];
 
+// The links of the last destination's best set in SLC order, and eight words for each link, the first its state.
+static unsigned round_size, round_links[16];
+static uint32_t words[8 * LINKS];
+
 static void set_ways(const int best[CODES], int of[SETS][16])
 {
     for (int code = 0; code < CODES; code++) {
@@ -35,7 +40,9 @@ static void set_ways(const int best[CODES], int of[SETS][16])
         for (int sls = 0; count && sls < 16; sls++)
             ways[code][sls] = (uint8_t)links[sls % count];
         if (count)
-            last = (unsigned)code;
+            last = (unsigned)code, round_size = (unsigned)count;
+        for (int place = 0; place < count; place++)
+            round_links[place] = (unsigned)links[place];
     }
 }
 
@@ -150,21 +157,43 @@ static void change_over(unsigned long messages, unsigned long times)
     show("changeovers", times), show("messages each", messages), show("sent again and acknowledged, with the COO", again);
 }
 
-int main(int count, char **words)
+// The first links are out. Each message that is sent is counted on its link, so that the compiler can't choose once for all.
+static void choose(unsigned long out, unsigned long count)
 {
-    const char *what = count < 3 ? "" : words[1];
-    int last = strcmp(what, "changeover") ? 2 : 3;
+    unsigned long sum = 0;
+    for (unsigned long link = out; link < LINKS; link++)
+        words[8 * link] = 2;
+    while (count-- > 0) {
+        unsigned link = LINKS;
+        for (unsigned passed = 0; passed < round_size && link == LINKS; passed++) {
+            unsigned next = round_links[(count % 16 + passed) % round_size];
+            if (words[8 * next] % 4)
+                link = next;
+        }
+        if (link < LINKS)
+            words[8 * link + 3] = count % 128;
+        sum += link;
+    }
+    show("links, added up", sum);
+}
+
+int main(int count, char **arguments)
+{
+    const char *what = count < 3 ? "" : arguments[1];
+    int last = strcmp(what, "changeover") && strcmp(what, "choose") ? 2 : 3;
     if (count > last + 1)
-        letter_size = strtoul(words[last + 1], 0, 10) % (LONGEST + 1);
-    unsigned long first = count < 3 ? 0 : strtoul(words[2], 0, 10);
+        letter_size = strtoul(arguments[last + 1], 0, 10) % (LONGEST + 1);
+    unsigned long first = count < 3 ? 0 : strtoul(arguments[2], 0, 10);
     configure();
     if (!strcmp(what, "transit"))
         move(adjacent[0], first, "received", "passed on");
     else if (!strcmp(what, "host"))
         move(own, first, "handed over", "queued");
     else if (!strcmp(what, "changeover") && count > last)
-        change_over(first, strtoul(words[3], 0, 10));
+        change_over(first, strtoul(arguments[3], 0, 10));
+    else if (!strcmp(what, "choose") && count > last)
+        choose(first, strtoul(arguments[3], 0, 10));
     else
-        return fputs("floor: transit COUNT, changeover MESSAGES TIMES or host COUNT, a configuration on standard input, and the messages' length where it isn't 40\n", stderr), 2;
+        return fputs("floor: transit COUNT, changeover MESSAGES TIMES, host COUNT or choose OUT COUNT, a configuration on standard input, and the messages' length where it isn't 40\n", stderr), 2;
     return 0;
 }

@@ -7,7 +7,7 @@ use native.Mathlib.Nat.{mod-lt, mod-eq-of-lt, mod-eq-sub-mod, mod-add-mod, mod-s
 use native.Mathlib.Numerals.{add-one}
 use native.Mathlib.Omega.{arith}
 use lib.Dec.{ltb}
-use lib.ListN.{length, getD, take, drop, length-append, length-take, length-drop, take-append-drop, drop-of-length-le, List·getD-append}
+use lib.ListN.{length, getD, take, drop, length-append, length-take, length-drop, take-append-drop, List·getD-append}
 use lib.Seq.{take-length, drop-length, drop-cons, take-suc, getD-append-add, getD-take, getD-drop}
 use borrow.Author.Tests.{lt-ltb, ltb-true, ltb-false}
 use borrow.Table.Steps.{cases}
@@ -42,23 +42,6 @@ module _ (serves : ℕ → Bool) where
   first-none [] no-one = refl
   first-none (link ∷ rest) no-one =
       cases (serves link) (λ e. absurd (true≢false (simp e at no-one))) (λ e. simp e (first-none rest (simp e at no-one)))
-
-  module _ (links : List ℕ) (k past-all : ℕ) (inside : k < length links) where
-    -- a link in front that doesn't serve is passed over
-    pub first-passed : serves (getD links k past-all) ≡ false
-        → firstServing serves (drop (k + 1) links) ≡ firstServing serves (drop k links)
-    unfolding firstServing
-    first-passed no-one = simp (add-one, drop-cons links k past-all inside, no-one)
-
-    -- one that serves is taken
-    pub first-taken : serves (getD links k past-all) ≡ true → getD links k past-all ≡ firstServing serves (drop k links)
-    unfolding firstServing
-    first-taken one = simp (drop-cons links k past-all inside, one)
-
-  -- past the last there is none
-  pub first-end : (links : List ℕ) (k : ℕ) → length links ≤ k → none ≡ firstServing serves (drop k links)
-  unfolding firstServing
-  first-end links k h = simp (drop-of-length-le links {i = k} h)
 
   -- a rule yields a link exactly if one serves
   pub serving-exactly : Proper serves → (links : List ℕ) → ltb (firstServing serves links) none ≡ someServes serves links
@@ -150,45 +133,6 @@ module _ (serves : ℕ → Bool) where
       ap (λ (p : ℕ). firstServing serves (goingRound p links)) next
       ∙ round-next links place (mod-lt (from + k) (omega arith)) there
       ∙ round-on links from here k (omega arith) (λ before b. passed before (omega arith))
-
--- what is left of the walk round some links from the place of an SLS, behind the first k
-abbrev pub walk : (ℕ → Bool) → List ℕ → ℕ → ℕ → ℕ
-walk serves links sls k = firstServing serves (drop k (goingRound (sls % length links) links))
-
--- the walk round the first m links of an array
-module _ (serves : ℕ → Bool) (those : List ℕ) (m sls : ℕ) (all : m ≡ length (take m those)) where
-  abbrev turn : List ℕ
-  turn = goingRound (sls % length (take m those)) (take m those)
-
-  in-turn : (k : ℕ) → k < m → k < length turn
-  in-turn k h = omega (arith, round-length (take m those) (sls % length (take m those)))
-
-  next-link : (k : ℕ) → k < m → getD turn k 0 ≡ getD those ((sls + k) % m) 0
-  next-link k h =
-      let some : 0 < length (take m those) = omega arith in
-      let start : sls % length (take m those) < length (take m those) = mod-lt sls some in
-      let place : (sls % length (take m those) + k) % length (take m those) ≡ (sls + k) % m =
-      mod-add-mod sls (length (take m those)) k ∙ ap (λ (n : ℕ). (sls + k) % n) (sym all)
-      in
-      round-at (take m those) (sls % length (take m those)) start k 0 (omega arith)
-      ∙ ap (λ (i : ℕ). getD (take m those) i 0) place
-      ∙ getD-take m those ((sls + k) % m) 0 (mod-lt (sls + k) (omega arith))
-
-  module _ (k : ℕ) (inside : k < m) where
-    -- a link that doesn't serve is passed over
-    pub walk-on : serves (getD those ((sls + k) % m) 0) ≡ false
-        → walk serves (take m those) sls (k + 1) ≡ walk serves (take m those) sls k
-    walk-on no-one = first-passed serves turn k 0 (in-turn k inside) (ap serves (next-link k inside) ∙ no-one)
-
-    -- one that serves is taken
-    pub walk-found : serves (getD those ((sls + k) % m) 0) ≡ true
-        → getD those ((sls + k) % m) 0 ≡ walk serves (take m those) sls k
-    walk-found one =
-        sym (next-link k inside) ∙ first-taken serves turn k 0 (in-turn k inside) (ap serves (next-link k inside) ∙ one)
-
-  -- all are passed, and there is none
-  pub walk-end : (k : ℕ) → m ≤ k → none ≡ walk serves (take m those) sls k
-  walk-end k h = first-end serves turn k (omega (arith, round-length (take m those) (sls % length (take m those))))
 
 -- what serves is a link
 pub serves-proper : (links : List ℕ) (need : Need) → Proper (serves links need)

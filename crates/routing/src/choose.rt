@@ -1,43 +1,26 @@
 // The chooser: over the ranks, best first, and round the set of each route.
+use crate::pattern::pattern_of;
+use crate::pattern::places_of;
 use crate::state::Need;
 use crate::state::marked;
 use crate::state::serves;
 use plan::data::LinkSet;
 use plan::data::Plan;
 use plan::data::Route;
+use round::table::place_for;
 ghost use mathlib.Core.Path.{_≡_};
-ghost use lib.ListN.{length, take};
+ghost use lib.ListN.{take};
 ghost use Rattle.routing.specs.State as State;
 ghost use Rattle.routing.specs.Which as Which;
 
-// The links to go round: the first m of the eight.
-struct Round {
-    m: usize,
-    links: [u8; 8],
-}
-
-// A set's links in SLC order.
-fn links_of(those: LinkSet) -> Round
-    ensures { λ r. ⌜ take (r .m) (r .links) ≡ take (those .count) (those .links) ⌝ }
-    ensures { λ r. ⌜ r .m ≡ length (take (those .count) (those .links)) ⌝ }
+// The set of a route, one without links where there is no route or it is marked prohibited.
+fn set_for(sets: [LinkSet; 8], route: Route, prohibited: bool) -> LinkSet
+    ensures { λ r. ⌜ take (r .count) (r .links) ≡ Which.inTurn (Which.ofSets sets) route prohibited ⌝ }
 {
-    let links = those.links;
-    if 8 < those.count {
-        return Round { m: 8, links };
-    }
-    Round {
-        m: those.count as usize,
-        links,
-    }
-}
-
-// The links of a route's set, none where there is no route or it is marked prohibited.
-fn round_of(sets: [LinkSet; 8], route: Route, prohibited: bool) -> Round
-    ensures { λ r. ⌜ take (r .m) (r .links) ≡ Which.inTurn (Which.ofSets sets) route prohibited ⌝ }
-    ensures { λ r. ⌜ r .m ≡ length (Which.inTurn (Which.ofSets sets) route prohibited) ⌝ }
-{
-    let none = Round {
-        m: 0,
+    let none = LinkSet {
+        given: false,
+        adjacent: 0,
+        count: 0,
         links: [0; 8],
     };
     if !route.given {
@@ -50,7 +33,28 @@ fn round_of(sets: [LinkSet; 8], route: Route, prohibited: bool) -> Round
     if 8 <= set {
         return none;
     }
-    links_of(sets[set])
+    sets[set]
+}
+
+// The link of a set for an SLS, 32 where none serves: its normal link, and the table's where that one doesn't serve.
+fn link_for(links: &[u32; 256], need: Need, those: LinkSet, sls: u8) -> u8
+    ensures { λ r. ⌜ r ≡ Which.linkFor (State.serves (now (links .entry)) need) (take (those .count) (those .links)) sls ⌝ }
+{
+    let m = places_of(those);
+    if m == 0 {
+        return 32;
+    }
+    let round = those.links;
+    let start = sls % m;
+    let normal = round[start as usize];
+    if serves(links, need, normal) {
+        return normal;
+    }
+    let place = place_for(pattern_of(links, need, m, round), start);
+    if m <= place {
+        return 32;
+    }
+    round[place as usize]
 }
 
 // The link that a message for a destination with an SLS takes, 32 where there is none.
@@ -94,20 +98,7 @@ pub fn choose_by(
         let route = routes[rank];
         let prohibited = marked(marks, destination, rank);
         rank += 1;
-        let round = round_of(sets, route, prohibited);
-        let m = round.m;
-        let those = round.links;
-        let mut passed = 0;
-        let link = loop {
-            if m <= passed {
-                break 32u8;
-            }
-            let next = those[(sls as usize + passed) % m];
-            passed += 1;
-            if serves(links, need, next) {
-                break next;
-            }
-        };
+        let link = link_for(links, need, set_for(sets, route, prohibited), sls);
         if link < 32 {
             break 'ranks link;
         }

@@ -1,3 +1,4 @@
 // Which link a message takes.
 pub mod choose;
+pub mod pattern;
 pub mod state;

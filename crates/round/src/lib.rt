@@ -1,0 +1,2 @@
+// Going round a set: the walking rule's table.
+pub mod table;

@@ -1,0 +1,146 @@
+-- `routing::choose::link_for` meets its contract: the normal link, if it serves, is the rule's, and else the rule's link stands at the place
+-- that the table has.
+-- Assumes nothing.
+use borrow.Author.Needs.{needs}
+use mathlib.Core.Path.{_≡_, refl, sym, ap, ap₂, _∙_}
+use mathlib.Core.Bool.{Bool}
+use mathlib.Core.List.{List}
+use Prim.Native.Nat.{ℕ, _%_, _≤_, _<_}
+use native.Mathlib.Nat.{mod-lt}
+use native.Mathlib.Omega.{arith}
+use lib.ListN.{length, take, getD, length-take, List·getD-eq-default}
+use Rattle.routing.specs.State as State
+use Rattle.routing.specs.Which.{none, linkFor}
+use Rattle.round.specs.Table.{patternOf, placeFor}
+use Rattle.round.proofs.ByTable.{by-table, no-links, normal-taken, in-front, taken-all}
+use Rattle.routing.proofs.choose.link_for.Statement.{statement}
+use Rattle.routing.proofs.choose.link_for.Tie as tie
+
+-- what the arguments say: which links serve, and which there are
+abbrev serving : tie.Start → ℕ → Bool
+serving s = State.serves (s .args .links .now) (s .args .need)
+
+abbrev those : tie.Start → List ℕ
+those s = take (s .args .those .count) (s .args .those .links)
+
+-- a set has at most eight links
+eight : (s : tie.Start) → length (s .args .those .links) ≡ 8
+eight s = search needs
+
+few : (s : tie.Start) → length (those s) ≤ 8
+few s = omega (arith, eight s, length-take (s .args .those .count) (s .args .those .links))
+
+places-of-requires : tie.Need-places-of-requires
+places-of-requires c κs = search needs
+
+returns : tie.Need-returns
+returns c =
+    let s = c .before .before in
+    no-links (serving s) (those s) (s .args .sls) (omega (arith, c .before .places-of .ensures))
+
+rem-start : tie.Need-rem-start
+rem-start c = search needs
+
+-- where there are links, the starting place is one of theirs
+module _ (c : tie.Else1) where
+  abbrev set : tie.Start
+  set = c .before .before
+
+  abbrev m : ℕ
+  m = c .before .places-of .result
+
+  abbrev start : ℕ
+  start = set .args .sls % m
+
+  some : 0 < length (those set)
+  some = omega (arith, c .before .places-of .ensures)
+
+  inside : start < length (those set)
+  inside = omega (arith, c .before .places-of .ensures, mod-lt (set .args .sls) {m = m} (omega arith))
+
+  -- a link at a place of the set
+  there : (place : ℕ) → place < length (those set) → getD (set .args .those .links) place 0 ≡ getD (those set) place none
+  there place h =
+      in-front (set .args .those .count) (set .args .those .links) place none
+      (omega (arith, length-take (set .args .those .count) (set .args .those .links)))
+      (omega (arith, few set, eight set))
+
+cast-normal : tie.Need-cast-normal
+cast-normal c = record { fits = omega (arith, inside (c .before), few (set (c .before))) }
+
+array-read-normal : tie.Need-array-read-normal
+array-read-normal c = omega (arith, inside (c .before), few (set (c .before)))
+
+serves-requires : tie.Need-serves-requires
+serves-requires c κs = search needs
+
+returns-2 : tie.Need-returns-2
+returns-2 c =
+    let at = c .before .before .before in
+    let s = set at in
+    let sls = s .args .sls in
+    let normal = there at (start at) (inside at) in
+    let place = ap (λ (m : ℕ). getD (those s) (sls % m) none) (at .before .places-of .ensures) in
+    let test = ap (serving s) (sym (normal ∙ place)) ∙ sym (c .before .serves .ensures) ∙ c .if2 .taken in
+    normal ∙ place ∙ normal-taken (serving s) (those s) sls (some at) test
+
+pattern-of-requires : tie.Need-pattern-of-requires
+pattern-of-requires c κs = search needs
+
+place-for-requires : tie.Need-place-for-requires
+place-for-requires c κs = search needs
+
+-- the rule's link stands at the table's place
+by-place : (c : tie.After-place-for)
+    → let at = c .before .before .before .before .before in
+    linkFor (serving (set at)) (those (set at)) (set at .args .sls) ≡ getD (those (set at)) (c .place-for .result) none
+by-place c =
+    let at = c .before .before .before .before .before in
+    let s = set at in
+    let sls = s .args .sls in
+    let m-all = at .before .places-of .ensures in
+    let links = s .args .those .links in
+    let all : take (m at) links ≡ those s =
+    ap (λ (m : ℕ). take m links) m-all ∙ taken-all (s .args .those .count) links
+    in
+    let pattern = c .before .pattern-of .ensures ∙ ap (patternOf (serving s)) all in
+    let place = c .place-for .ensures ∙ ap₂ placeFor pattern (ap (λ (m : ℕ). sls % m) m-all) in
+    by-table (serving s) (those s) refl (few s) sls (some at)
+    ∙ ap (λ (place : ℕ). getD (those s) place none) (sym place)
+
+returns-3 : tie.Need-returns-3
+returns-3 c =
+    let at = c .before .before .before .before .before .before in
+    let past-all : length (those (set at)) ≤ c .before .place-for .result = omega (arith, at .before .places-of .ensures) in
+    sym (List·getD-eq-default (those (set at)) none {n = c .before .place-for .result} past-all) ∙ sym (by-place (c .before))
+
+cast-result : tie.Need-cast-result
+cast-result c = search needs
+
+array-read-result : tie.Need-array-read-result
+array-read-result c =
+    let at = c .before .before .before .before .before .before in
+    omega (arith, at .before .places-of .ensures, few (set at))
+
+returns-4 : tie.Need-returns-4
+returns-4 c =
+    let at = c .before .before .before .before .before .before in
+    there at (c .before .place-for .result) (omega (arith, at .before .places-of .ensures)) ∙ sym (by-place (c .before))
+
+pub link-for-spec : {M : Type 1} → statement M
+link-for-spec =
+    tie.close
+    (tie.spec
+    places-of-requires
+    returns
+    rem-start
+    cast-normal
+    array-read-normal
+    serves-requires
+    returns-2
+    pattern-of-requires
+    place-for-requires
+    returns-3
+    cast-result
+    array-read-result
+    returns-4)
