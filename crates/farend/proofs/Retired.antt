@@ -6,18 +6,13 @@ use Prim.Native.Nat.{ℕ, zero, suc, _<_}
 use native.Mathlib.Omega.{arith}
 use lib.ListN.{drop}
 use lib.Seq.{drop-nil}
+use Rattle.round.proofs.Lists.{map-drop}
 use Rattle.store.specs.Sound.{Sound}
 use Rattle.queueing.specs.Head.{Queues, freed, repeat}
 use Rattle.queueing.specs.Leave.{retired}
 use Rattle.ledger.specs.Held.{arrivalOf, numbers}
 use Rattle.leaving.specs.Going.{slotsOf}
 use Rattle.leaving.proofs.Queues.{freed-none, freed-from, freed-other, freed-sound}
-
--- those left of some, by what they are named
-map-drop : (f : ℕ → ℕ) (many : ℕ) (slots : List ℕ) → map f (drop many slots) ≡ drop many (map f slots)
-map-drop f zero slots = refl
-map-drop f (suc more) [] = refl
-map-drop f (suc more) (slot ∷ later) = map-drop f more later
 
 module _ (rows octets : List ℕ) (link : ℕ) (within : link < 33) where
   abbrev SoundIn : Queues → Type 0

@@ -1,1 +1,3 @@
 pub mod ByTable
+pub mod Lists
+pub mod Words

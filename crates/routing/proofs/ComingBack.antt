@@ -1,6 +1,6 @@
 -- A link that comes back takes pairs from at most one link of its own set, and then from no other: never from its own set and
 -- from another together. Assumes nothing.
-use mathlib.Core.Path.{_≡_, refl, sym, ap, _∙_}
+use mathlib.Core.Path.{_≡_, sym, ap, _∙_}
 use mathlib.Core.Bool.{Bool, true, true≢false}
 use mathlib.Core.List.{List, [], _∷_}
 use mathlib.Core.Logic.{⊎-elim}
@@ -12,6 +12,7 @@ use borrow.Table.Steps.{cases}
 use Rattle.plan.specs.declared.data.Plan.{Plan}
 use Rattle.plan.specs.Sound.{Sound}
 use Rattle.plan.proofs.Sound.{one-place}
+use Rattle.round.proofs.Lists.{there-alone}
 use Rattle.routing.specs.Chosen.{routeOf, usedLinks, Uses, Lost, Back, Takes, Stands, EachInOnePlace}
 use Rattle.plan.specs.Data.{linksOf, routesOf}
 use Rattle.routing.specs.Which.{none, goingRound, firstServing, someServes, usable}
@@ -118,12 +119,6 @@ module _ (serves serves′ : ℕ → Bool) (link : ℕ) (back : Back serves serv
         let some = own-set marked destination sls from takes set own in
         came-from marked′ destination′ sls′ from′ takes′ set stands some
         ∙ sym (came-from marked destination sls from takes set stands some)
-
--- what stands at a place that there is doesn't depend on what stands past the end
-there-alone : (l : List ℕ) (i d d′ : ℕ) → i < length l → getD l i d ≡ getD l i d′
-there-alone [] i d d′ h = absurd (omega arith)
-there-alone (x ∷ l) zero d d′ h = refl
-there-alone (x ∷ l) (suc i) d d′ h = there-alone l i d d′ (omega arith)
 
 -- in a sound plan each link stands in one place
 pub sound-apart : (plan : Plan) → Sound plan → EachInOnePlace plan

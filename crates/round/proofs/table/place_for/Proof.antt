@@ -6,7 +6,7 @@ use Prim.Native.Nat.{ℕ, _+_, _*_, _/_, _%_, _^_, _<_}
 use native.Mathlib.Omega.{arith}
 use borrow.Author.Tests.{lt-ltb}
 use Rattle.round.specs.Table.{digits, word}
-use Rattle.round.proofs.ByTable.{digit-at, entry-of}
+use Rattle.round.proofs.Words.{digit-at, entry-of}
 use Rattle.round.proofs.table.place_for.Statement.{statement}
 use Rattle.round.proofs.table.place_for.Tie as tie
 

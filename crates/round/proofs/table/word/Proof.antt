@@ -10,7 +10,7 @@ use lib.ListN.{length, getD}
 use borrow.Author.Tests.{ltb-true, le-ltb, eqb-true}
 use Rattle.round.specs.Round.{firstServing}
 use Rattle.round.specs.Table.{digits, word}
-use Rattle.round.proofs.ByTable.{every, at-each, past}
+use Rattle.round.proofs.Words.{every, at-each, past}
 use Rattle.round.proofs.table.word.Statement.{statement}
 use Rattle.round.proofs.table.word.Tie as tie
 

@@ -12,7 +12,8 @@ use lib.ListN.{length, take, getD, length-take, List·getD-eq-default}
 use Rattle.routing.specs.State as State
 use Rattle.routing.specs.Which.{none, linkFor}
 use Rattle.round.specs.Table.{patternOf, placeFor}
-use Rattle.round.proofs.ByTable.{by-table, no-links, normal-taken, in-front, taken-all}
+use Rattle.round.proofs.ByTable.{by-table, no-links, normal-taken}
+use Rattle.round.proofs.Lists.{in-front, taken-all}
 use Rattle.routing.proofs.choose.link_for.Statement.{statement}
 use Rattle.routing.proofs.choose.link_for.Tie as tie
 
@@ -61,7 +62,7 @@ module _ (c : tie.Else1) where
   -- a link at a place of the set
   there : (place : ℕ) → place < length (those set) → getD (set .args .those .links) place 0 ≡ getD (those set) place none
   there place h =
-      in-front (set .args .those .count) (set .args .those .links) place none
+      in-front (set .args .those .count) (set .args .those .links) place 0 none
       (omega (arith, length-take (set .args .those .count) (set .args .those .links)))
       (omega (arith, few set, eight set))
 

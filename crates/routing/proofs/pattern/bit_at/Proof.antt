@@ -9,7 +9,8 @@ use native.Mathlib.Omega.{arith}
 use lib.ListN.{length, take, getD, length-take}
 use Rattle.routing.specs.State as State
 use Rattle.routing.specs.Which.{none}
-use Rattle.round.proofs.ByTable.{no-bit, in-front}
+use Rattle.round.proofs.ByTable.{no-bit}
+use Rattle.round.proofs.Lists.{in-front}
 use Rattle.routing.proofs.pattern.bit_at.Statement.{statement}
 use Rattle.routing.proofs.pattern.bit_at.Tie as tie
 
@@ -47,7 +48,7 @@ tested c =
     let s = c .before .before .before in
     let a = s .args in
     c .serves .ensures
-    ∙ ap (serving s) (in-front (a .m) (a .t4) (a .place) none (omega arith) (omega (arith, eight s)))
+    ∙ ap (serving s) (in-front (a .m) (a .t4) (a .place) 0 none (omega arith) (omega (arith, eight s)))
 
 returns-3 : tie.Need-returns-3
 returns-3 c = simp (sym (tested (c .before)), c .if3 .taken)
