@@ -23,11 +23,11 @@ struct point {
     struct frame wire[LINKS][WIRE]; /* what this point sent and nobody acknowledged */
     size_t waiting[LINKS];
     long link_clock[LINKS][5], other_clock[11]; /* when T1 to T4 of a link, T6, T8 and T10 of the other point expire; 0: stopped */
+    bool in_service[LINKS];
     unsigned other;
 };
 
 static struct point points[2];
-static bool aligned[LINKS];
 static unsigned got[MESSAGES], open_then, taken_then;
 static uint64_t reports[TRANSFER_POINT_REPORTS];
 
@@ -80,7 +80,24 @@ static void send(struct point *point, unsigned link) {
         puts("the driver's record and the node disagree");
 }
 
-/* The far end takes the next message; one for its own users has its number behind the label. */
+/*
+ * Whether the node took a message that came in: it did what the message asks, dropped it for good, or found nothing to do. With any other
+ * reply it is as if the message hadn't come, and the node still waits for its number. So the message stays first, is offered again with that
+ * number until it is taken, and those behind it wait. A driver that goes on to the next loses it, and the link with it, since every number
+ * from then on is a wrong one.
+ */
+static bool is_taken(uint8_t reply) {
+    switch (reply) {
+    case TRANSFER_POINT_DONE:
+    case TRANSFER_POINT_MALFORMED:
+    case TRANSFER_POINT_FOREIGN_NETWORK:
+    case TRANSFER_POINT_NO_DESTINATION:
+    case TRANSFER_POINT_NO_EFFECT: return true;
+    default: return false;
+    }
+}
+
+/* The far end is offered the first message that it hasn't taken; one for its own users has its number behind the label. */
 static void take(struct point *from, struct point *to, unsigned link) {
     struct frame *frame = from->wire[link], *end = frame + from->waiting[link];
     while (frame < end && frame->taken)
@@ -89,29 +106,43 @@ static void take(struct point *from, struct point *to, unsigned link) {
         return;
     struct transfer_point_answer answer = transfer_point_received(&to->node, link, frame->fsn, frame->octets, frame->length, reports, WORDS);
     unsigned number;
-    frame->taken = answer.reply != TRANSFER_POINT_DOES_NOT_FIT;
+    frame->taken = is_taken(answer.reply);
     if (answer.delivers && (memcpy(&number, transfer_point_delivered(frame->octets), sizeof number), number < MESSAGES))
         got[number]++;
 }
 
-/* Five at a time the far end acknowledges what it took, so that some are always open. */
+/* Five at a time the far end acknowledges what it took, so that some are always open. What the node refuses hasn't happened. */
 static void acknowledge(struct point *point, unsigned link) {
     if (point->waiting[link] < 5 || !point->wire[link][4].taken)
         return;
     uint8_t number = point->wire[link][4].fsn;
-    if (transfer_point_acknowledgement(&point->node, link, number).reply == TRANSFER_POINT_DONE)
-        transfer_point_note_acknowledged(&point->record[link], number);
+    if (transfer_point_acknowledgement(&point->node, link, number).reply != TRANSFER_POINT_DONE)
+        return;
+    transfer_point_note_acknowledged(&point->record[link], number);
     point->waiting[link] -= 5;
     memmove(point->wire[link], point->wire[link] + 5, point->waiting[link] * sizeof point->wire[link][0]);
 }
 
-/* A card falls over, and what it had on the wire is gone; or it is aligned again. Both points hear of it. */
-static void turn(struct point *point, unsigned link, bool up) {
+/* A card falls over, and what it had on the wire is gone. */
+static void fall_over(struct point *point, unsigned link) {
     for (; point->waiting[link] > 0; open_then++)
         taken_then += point->wire[link][--point->waiting[link]].taken;
+    point->in_service[link] = false;
+    transfer_point_failure(&point->node, link, reports, WORDS);
+}
+
+/* A card is aligned. A node that has no room for what it must tell others then refuses (reply 8), and hears of it again. */
+static void come_up(struct point *point, unsigned link) {
     point->record[link] = transfer_point_begun();
-    aligned[link] = up;
-    (up ? transfer_point_into_service : transfer_point_failure)(&point->node, link, reports, WORDS);
+    point->in_service[link] = transfer_point_into_service(&point->node, link, reports, WORDS).reply == TRANSFER_POINT_DONE;
+}
+
+/* What level 2 says of a link, told to a point that doesn't know it yet. */
+static void tell(struct point *point, unsigned link, bool aligned) {
+    if (point->in_service[link] && !aligned)
+        fall_over(point, link);
+    else if (!point->in_service[link] && aligned)
+        come_up(point, link);
 }
 
 /* A user's message for point 2: NI 2, SI 5, DPC 2, OPC 1, the SLS, and its number. A full node takes none. */
@@ -127,17 +158,17 @@ int main(void) {
     unsigned next = 0, lost = 0, doubled = 0;
     for (unsigned i = 0; i < 2; i++) {
         points[i].other = 2 - i;
-        transfer_point_start(&points[i].node, (const uint8_t *)texts[i], strlen(texts[i]));
-        turn(&points[i], 0, true), turn(&points[i], 1, true);
+        if (transfer_point_start(&points[i].node, (const uint8_t *)texts[i], strlen(texts[i])).fault != 0)
+            return 2;
     }
     for (long begun = milliseconds(), now = begun; now < begun + 4000; now = milliseconds()) {
-        if (aligned[0] != (now < begun + 500 || now >= begun + 1500))
-            turn(&points[0], 0, !aligned[0]), turn(&points[1], 0, aligned[0]);
+        for (unsigned i = 0; i < 2; i++)
+            tell(&points[i], 0, now < begun + 500 || now >= begun + 1500), tell(&points[i], 1, true);
         while (next < MESSAGES && hand_over(next))
             next++;
         for (unsigned i = 0; i < 2; run_clocks(&points[i++], now))
             for (unsigned link = 0; link < LINKS; link++)
-                if (aligned[link])
+                if (points[i].in_service[link])
                     send(&points[i], link), send(&points[i], link), take(&points[i], &points[1 - i], link), acknowledge(&points[i], link);
         nanosleep(&(struct timespec){.tv_nsec = 1000000}, NULL);
     }

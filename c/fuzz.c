@@ -65,6 +65,7 @@ static bool untouched(struct area lent, size_t length, size_t written) {
 
 static struct area node_area, text_area, message_area, out_area, reports_area;
 static struct transfer_point *node;
+static const size_t plan_words = sizeof node->plan / sizeof *node->plan;
 static uint64_t seed, calls, seen[12], faults;
 static bool scrambled;
 
@@ -301,6 +302,16 @@ static void keep_line(void) {
         wrong("a line that doesn't end once");
 }
 
+/* A node made anew has nothing of what stood there before: one of zeros becomes the same. The rings keep what no queue holds any more. */
+static void see_anew(const uint8_t *text, size_t count) {
+    static struct transfer_point fresh;
+    memset(&fresh, 0, sizeof fresh);
+    if (transfer_point_start(&fresh, text, count).fault != 0 || fresh.arrivals[0] != node->arrivals[0])
+        wrong("a node of zeros is made otherwise");
+    if (memcmp(&fresh, node, offsetof(struct transfer_point, rings)) != 0)
+        wrong("what stood in the node before is there still");
+}
+
 static void start(void) {
     static uint8_t text[LENT];
     size_t count = make_text(text);
@@ -319,27 +330,31 @@ static void start(void) {
         wrong("a refused configuration changes the node");
     faults += made.fault != 0;
     if (made.fault == 0)
-        open_links();
+        see_anew(at, count), open_links();
 }
 
-/* A node whose memory is noise: its bools are bools, and all else is anything. */
+/* A word of a plan that may mean something: nothing, a small number, one with a bit above its octet, or noise. */
+static uint16_t word(void) {
+    switch (below(4)) {
+    case 0: return 0;
+    case 1: return (uint16_t)below(40);
+    case 2: return (uint16_t)(256 + below(10));
+    default: return (uint16_t)any();
+    }
+}
+
+/* A node of noise; its plan is noise too, or words that may mean something. */
 static void scramble(void) {
     noise(node, sizeof *node);
-    struct transfer_point_plan *plan = &node->plan;
-    bool *bools[1 + TRANSFER_POINT_SETS + TRANSFER_POINT_LINKS + 4 * TRANSFER_POINT_DESTINATIONS];
-    size_t count = 0;
-    bools[count++] = &plan->given;
-    for (size_t set = 0; set < TRANSFER_POINT_SETS; set++)
-        bools[count++] = &plan->sets[set].given;
-    for (size_t link = 0; link < TRANSFER_POINT_LINKS; link++)
-        bools[count++] = &plan->links[link].given;
-    for (size_t destination = 0; destination < TRANSFER_POINT_DESTINATIONS; destination++)
-        for (size_t rank = 0; rank < 4; rank++)
-            bools[count++] = &plan->destinations[destination].routes[rank].given;
-    for (size_t i = 0; i < count; i++) {
-        uint8_t either = (uint8_t)below(2);
-        memcpy(bools[i], &either, 1);
-    }
+    for (size_t i = once_in(2) ? plan_words : 0; i < plan_words; i++)
+        node->plan[i] = word();
+}
+
+/* A node that was made, some words of whose plan are changed then. */
+static void spoil(void) {
+    start();
+    for (uint64_t spoilt = 1 + below(64); spoilt > 0; spoilt--)
+        node->plan[below(plan_words)] = word();
 }
 
 int main(int count, char **arguments) {
@@ -357,11 +372,14 @@ int main(int count, char **arguments) {
         seed = first + rounds++;
         state = 0x9e3779b97f4a7c15u ^ (seed << 20 | 1);
         memset(node, 0, sizeof *node);
-        scrambled = seed % 4 == 3;
-        if (scrambled)
+        scrambled = false;
+        if (seed % 8 == 3)
             scramble();
+        if (seed % 8 == 7)
+            spoil();
+        scrambled = seed % 4 == 3;
         for (unsigned i = 0; i < CALLS; i++)
-            if (i == 0 || once_in(1000))
+            if ((i == 0 && !scrambled) || once_in(1000))
                 start();
             else if (once_in(50))
                 keep_line();

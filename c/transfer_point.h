@@ -85,44 +85,8 @@ enum transfer_point_timer {
 
 /* ---- What a host keeps of a node. Only the library writes it; zeros are no node yet, and every call but a start is reply 2 */
 
-struct transfer_point_route {
-    bool given;
-    uint8_t set;
-};
-
-struct transfer_point_destination {
-    uint16_t code;
-    struct transfer_point_route routes[4];  /* by rank, 0 the best */
-};
-
-struct transfer_point_set {
-    bool given;
-    uint16_t adjacent;
-    uint8_t count;
-    uint8_t links[8];                       /* the first `count`, in SLC order */
-};
-
-struct transfer_point_link {
-    bool given;
-    uint8_t set;
-    uint8_t slc;
-};
-
-/* What the configuration says. */
-struct transfer_point_plan {
-    bool given;
-    uint16_t code;
-    uint8_t ni;
-    uint8_t count;
-    struct transfer_point_set sets[TRANSFER_POINT_SETS];
-    struct transfer_point_link links[TRANSFER_POINT_LINKS];
-    struct transfer_point_destination destinations[TRANSFER_POINT_DESTINATIONS];  /* the first `count`, in ascending code */
-};
-
-_Static_assert(sizeof(struct transfer_point_plan) == 854, "the library's plan has 854 octets");
-
 struct transfer_point {
-    struct transfer_point_plan plan;
+    uint16_t plan[1024];     /* what the configuration says, in an order of the library's own */
     uint32_t links[256];     /* eight words for each link; the first is its state: 0 out, 1 waiting, 2 open, 3 changing */
     uint32_t marks[512];     /* eight for each destination */
     uint16_t spans[70];      /* head and count of each of 35 queues */
@@ -156,44 +120,33 @@ struct transfer_point_record {
 
 /* ---- The library's own functions: every area lent by itself, a slice as its place and its length. Call those below instead. */
 
-struct transfer_point_configured {
-    size_t line;
-    uint8_t fault;
-    struct transfer_point_plan plan;
-};
-
-struct transfer_point_listed {
-    uint8_t reply;
-    size_t count;
-};
-
-struct transfer_point_configured transfer_point_start_lent(const struct transfer_point_plan *, uint32_t *links, uint32_t *marks, uint16_t *spans,
-    uint8_t *rings, uint64_t *arrivals, const uint8_t *text, size_t length);
-struct transfer_point_answer transfer_point_into_service_lent(const struct transfer_point_plan *, uint32_t *links, const uint32_t *marks,
+struct transfer_point_fault transfer_point_start_lent(uint16_t *plan, uint32_t *links, uint32_t *marks, uint16_t *spans, uint8_t *rings,
+    uint64_t *arrivals, const uint8_t *text, size_t length);
+struct transfer_point_answer transfer_point_into_service_lent(const uint16_t *plan, uint32_t *links, const uint32_t *marks,
     uint16_t *spans, uint8_t *rings, uint64_t *rows, uint64_t *arrivals, uint8_t link, uint64_t *reports, size_t words);
-struct transfer_point_answer transfer_point_fail_lent(const struct transfer_point_plan *, uint32_t *links, const uint32_t *marks,
+struct transfer_point_answer transfer_point_fail_lent(const uint16_t *plan, uint32_t *links, const uint32_t *marks,
     uint16_t *spans, uint8_t *rings, uint64_t *rows, uint64_t *arrivals, uint8_t link, uint64_t *reports, size_t words);
-struct transfer_point_answer transfer_point_send_lent(const struct transfer_point_plan *, uint32_t *links, const uint16_t *spans,
+struct transfer_point_answer transfer_point_send_lent(const uint16_t *plan, uint32_t *links, const uint16_t *spans,
     const uint8_t *rings, const uint64_t *rows, const uint8_t *octets, uint8_t link, uint8_t *out, size_t room);
-uint8_t transfer_point_acknowledge_lent(const struct transfer_point_plan *, uint32_t *links, uint16_t *spans, uint8_t *rings, uint8_t link, uint8_t number);
-struct transfer_point_answer transfer_point_receive_lent(const struct transfer_point_plan *, uint32_t *links, uint32_t *marks, uint16_t *spans,
+uint8_t transfer_point_acknowledge_lent(const uint16_t *plan, uint32_t *links, uint16_t *spans, uint8_t *rings, uint8_t link, uint8_t number);
+struct transfer_point_answer transfer_point_receive_lent(const uint16_t *plan, uint32_t *links, uint32_t *marks, uint16_t *spans,
     uint8_t *rings, uint64_t *rows, uint8_t *octets, uint64_t *arrivals, uint8_t link, uint8_t fsn, const uint8_t *message, size_t length,
     uint64_t *reports, size_t words);
-struct transfer_point_answer transfer_point_send_host_lent(const struct transfer_point_plan *, const uint32_t *links, const uint32_t *marks,
+struct transfer_point_answer transfer_point_send_host_lent(const uint16_t *plan, const uint32_t *links, const uint32_t *marks,
     uint16_t *spans, uint8_t *rings, uint64_t *rows, uint8_t *octets, uint64_t *arrivals, const uint8_t *message, size_t length);
-struct transfer_point_answer transfer_point_expire_lent(const struct transfer_point_plan *, uint32_t *links, const uint32_t *marks,
+struct transfer_point_answer transfer_point_expire_lent(const uint16_t *plan, uint32_t *links, const uint32_t *marks,
     uint16_t *spans, uint8_t *rings, const uint64_t *rows, uint8_t link, uint8_t timer, uint64_t *reports, size_t words);
-uint8_t transfer_point_expire_wait_lent(const struct transfer_point_plan *, uint32_t *links, uint8_t link, uint8_t timer);
-struct transfer_point_answer transfer_point_expire_t6_lent(const struct transfer_point_plan *, const uint32_t *links, uint32_t *marks,
+uint8_t transfer_point_expire_wait_lent(const uint16_t *plan, uint32_t *links, uint8_t link, uint8_t timer);
+struct transfer_point_answer transfer_point_expire_t6_lent(const uint16_t *plan, const uint32_t *links, uint32_t *marks,
     uint16_t *spans, uint8_t *rings, const uint64_t *rows, uint16_t code, uint64_t *reports, size_t words);
-uint8_t transfer_point_expire_t8_lent(const struct transfer_point_plan *, uint32_t *marks, uint16_t code);
-struct transfer_point_answer transfer_point_expire_t10_lent(const struct transfer_point_plan *, const uint32_t *links, const uint32_t *marks,
+uint8_t transfer_point_expire_t8_lent(const uint16_t *plan, uint32_t *marks, uint16_t code);
+struct transfer_point_answer transfer_point_expire_t10_lent(const uint16_t *plan, const uint32_t *links, const uint32_t *marks,
     uint16_t *spans, uint8_t *rings, uint64_t *rows, uint64_t *arrivals, uint16_t code, uint8_t set);
-struct transfer_point_listed transfer_point_route_list_lent(const struct transfer_point_plan *, const uint32_t *links, const uint32_t *marks,
+struct transfer_point_answer transfer_point_route_list_lent(const uint16_t *plan, const uint32_t *links, const uint32_t *marks,
     uint8_t *out, size_t room);
-bool transfer_point_link_timer_lent(const struct transfer_point_plan *, const uint32_t *links, uint8_t link, uint8_t timer);
-bool transfer_point_destination_timer_lent(const struct transfer_point_plan *, const uint32_t *marks, uint16_t code, uint8_t timer);
-bool transfer_point_route_timer_lent(const struct transfer_point_plan *, const uint32_t *marks, uint16_t code, uint8_t set);
+bool transfer_point_link_timer_lent(const uint16_t *plan, const uint32_t *links, uint8_t link, uint8_t timer);
+bool transfer_point_destination_timer_lent(const uint16_t *plan, const uint32_t *marks, uint16_t code, uint8_t timer);
+bool transfer_point_route_timer_lent(const uint16_t *plan, const uint32_t *marks, uint16_t code, uint8_t set);
 
 /* A number too wide for the library's parameter is passed as the widest one, which is out of range too. */
 static inline uint8_t transfer_point_8(uint64_t number) { return number < UINT8_MAX ? (uint8_t)number : UINT8_MAX; }
@@ -217,37 +170,33 @@ static inline struct transfer_point_answer transfer_point_plain(uint8_t reply) {
 /* A configuration's text makes the node anew, all links out and empty, or is refused. */
 static inline struct transfer_point_fault transfer_point_start(struct transfer_point *node, const uint8_t *text, size_t length) {
     const uint8_t *from = transfer_point_area(text, &length);
-    struct transfer_point_configured made = transfer_point_start_lent(
-        &node->plan, node->links, node->marks, node->spans, node->rings, node->arrivals, from, length);
-    struct transfer_point_fault fault = {.line = made.line, .fault = made.fault};
-    node->plan = made.plan;
-    return fault;
+    return transfer_point_start_lent(node->plan, node->links, node->marks, node->spans, node->rings, node->arrivals, from, length);
 }
 
 /* Level 2 says that a link is aligned. */
 static inline struct transfer_point_answer transfer_point_into_service(struct transfer_point *node, uint64_t link, uint64_t *reports, size_t words) {
     uint64_t *to = transfer_point_area(reports, &words);
-    return transfer_point_into_service_lent(&node->plan, node->links, node->marks, node->spans, node->rings, node->rows, node->arrivals,
+    return transfer_point_into_service_lent(node->plan, node->links, node->marks, node->spans, node->rings, node->rows, node->arrivals,
         transfer_point_8(link), to, words);
 }
 
 /* Level 2 says that a link failed. */
 static inline struct transfer_point_answer transfer_point_failure(struct transfer_point *node, uint64_t link, uint64_t *reports, size_t words) {
     uint64_t *to = transfer_point_area(reports, &words);
-    return transfer_point_fail_lent(&node->plan, node->links, node->marks, node->spans, node->rings, node->rows, node->arrivals,
+    return transfer_point_fail_lent(node->plan, node->links, node->marks, node->spans, node->rings, node->rows, node->arrivals,
         transfer_point_8(link), to, words);
 }
 
 /* Level 2 can send: the link's next message, at the start of `out`, and the number it leaves with. */
 static inline struct transfer_point_answer transfer_point_send(struct transfer_point *node, uint64_t link, uint8_t *out, size_t room) {
     uint8_t *to = transfer_point_area(out, &room);
-    return transfer_point_send_lent(&node->plan, node->links, node->spans, node->rings, node->rows, node->octets, transfer_point_8(link), to, room);
+    return transfer_point_send_lent(node->plan, node->links, node->spans, node->rings, node->rows, node->octets, transfer_point_8(link), to, room);
 }
 
 /* The far end acknowledged every message up to that number. */
 static inline struct transfer_point_answer transfer_point_acknowledgement(struct transfer_point *node, uint64_t link, uint64_t number) {
     return transfer_point_plain(transfer_point_acknowledge_lent(
-        &node->plan, node->links, node->spans, node->rings, transfer_point_8(link), transfer_point_8(number)));
+        node->plan, node->links, node->spans, node->rings, transfer_point_8(link), transfer_point_8(number)));
 }
 
 /* A message came in. With replies 1, 2, 5, 6, 7, 8 and 10 it isn't taken: offer it again with the same number. */
@@ -255,7 +204,7 @@ static inline struct transfer_point_answer transfer_point_received(struct transf
     const uint8_t *message, size_t length, uint64_t *reports, size_t words) {
     const uint8_t *from = transfer_point_area(message, &length);
     uint64_t *to = transfer_point_area(reports, &words);
-    return transfer_point_receive_lent(&node->plan, node->links, node->marks, node->spans, node->rings, node->rows, node->octets,
+    return transfer_point_receive_lent(node->plan, node->links, node->marks, node->spans, node->rings, node->rows, node->octets,
         node->arrivals, transfer_point_8(link), transfer_point_8(fsn), from, length, to, words);
 }
 
@@ -265,7 +214,7 @@ static inline const uint8_t *transfer_point_delivered(const uint8_t *message) { 
 /* A user of this point hands a message over. */
 static inline struct transfer_point_answer transfer_point_from_host(struct transfer_point *node, const uint8_t *message, size_t length) {
     const uint8_t *from = transfer_point_area(message, &length);
-    return transfer_point_send_host_lent(&node->plan, node->links, node->marks, node->spans, node->rings, node->rows, node->octets,
+    return transfer_point_send_host_lent(node->plan, node->links, node->marks, node->spans, node->rings, node->rows, node->octets,
         node->arrivals, from, length);
 }
 
@@ -273,60 +222,58 @@ static inline struct transfer_point_answer transfer_point_from_host(struct trans
 static inline struct transfer_point_answer transfer_point_t1(struct transfer_point *node, uint64_t link, uint64_t *reports, size_t words) {
     uint64_t *to = transfer_point_area(reports, &words);
     return transfer_point_expire_lent(
-        &node->plan, node->links, node->marks, node->spans, node->rings, node->rows, transfer_point_8(link), TRANSFER_POINT_T1, to, words);
+        node->plan, node->links, node->marks, node->spans, node->rings, node->rows, transfer_point_8(link), TRANSFER_POINT_T1, to, words);
 }
 
 static inline struct transfer_point_answer transfer_point_t2(struct transfer_point *node, uint64_t link, uint64_t *reports, size_t words) {
     uint64_t *to = transfer_point_area(reports, &words);
     return transfer_point_expire_lent(
-        &node->plan, node->links, node->marks, node->spans, node->rings, node->rows, transfer_point_8(link), TRANSFER_POINT_T2, to, words);
+        node->plan, node->links, node->marks, node->spans, node->rings, node->rows, transfer_point_8(link), TRANSFER_POINT_T2, to, words);
 }
 
 static inline struct transfer_point_answer transfer_point_t3(struct transfer_point *node, uint64_t link) {
-    return transfer_point_plain(transfer_point_expire_wait_lent(&node->plan, node->links, transfer_point_8(link), TRANSFER_POINT_T3));
+    return transfer_point_plain(transfer_point_expire_wait_lent(node->plan, node->links, transfer_point_8(link), TRANSFER_POINT_T3));
 }
 
 static inline struct transfer_point_answer transfer_point_t4(struct transfer_point *node, uint64_t link) {
-    return transfer_point_plain(transfer_point_expire_wait_lent(&node->plan, node->links, transfer_point_8(link), TRANSFER_POINT_T4));
+    return transfer_point_plain(transfer_point_expire_wait_lent(node->plan, node->links, transfer_point_8(link), TRANSFER_POINT_T4));
 }
 
 /* A destination's timer expired. */
 static inline struct transfer_point_answer transfer_point_t6(struct transfer_point *node, uint64_t code, uint64_t *reports, size_t words) {
     uint64_t *to = transfer_point_area(reports, &words);
     return transfer_point_expire_t6_lent(
-        &node->plan, node->links, node->marks, node->spans, node->rings, node->rows, transfer_point_16(code), to, words);
+        node->plan, node->links, node->marks, node->spans, node->rings, node->rows, transfer_point_16(code), to, words);
 }
 
 static inline struct transfer_point_answer transfer_point_t8(struct transfer_point *node, uint64_t code) {
-    return transfer_point_plain(transfer_point_expire_t8_lent(&node->plan, node->marks, transfer_point_16(code)));
+    return transfer_point_plain(transfer_point_expire_t8_lent(node->plan, node->marks, transfer_point_16(code)));
 }
 
 /* The timer of the route to a destination by a set expired; it restarts by itself. */
 static inline struct transfer_point_answer transfer_point_t10(struct transfer_point *node, uint64_t code, uint64_t set) {
-    return transfer_point_expire_t10_lent(&node->plan, node->links, node->marks, node->spans, node->rings, node->rows, node->arrivals,
+    return transfer_point_expire_t10_lent(node->plan, node->links, node->marks, node->spans, node->rings, node->rows, node->arrivals,
         transfer_point_16(code), transfer_point_8(set));
 }
 
 /* The route list, a text, at the start of `out`. */
 static inline struct transfer_point_answer transfer_point_routes(const struct transfer_point *node, uint8_t *out, size_t room) {
     uint8_t *to = transfer_point_area(out, &room);
-    struct transfer_point_listed listed = transfer_point_route_list_lent(&node->plan, node->links, node->marks, to, room);
-    struct transfer_point_answer answer = {.reply = listed.reply, .octets = listed.count};
-    return answer;
+    return transfer_point_route_list_lent(node->plan, node->links, node->marks, to, room);
 }
 
 /* ---- Which timers run: read them after a call, and start or stop the clocks */
 
 static inline bool transfer_point_link_timer_runs(const struct transfer_point *node, uint64_t link, enum transfer_point_timer timer) {
-    return transfer_point_link_timer_lent(&node->plan, node->links, transfer_point_8(link), transfer_point_8(timer));
+    return transfer_point_link_timer_lent(node->plan, node->links, transfer_point_8(link), transfer_point_8(timer));
 }
 
 static inline bool transfer_point_destination_timer_runs(const struct transfer_point *node, uint64_t code, enum transfer_point_timer timer) {
-    return transfer_point_destination_timer_lent(&node->plan, node->marks, transfer_point_16(code), transfer_point_8(timer));
+    return transfer_point_destination_timer_lent(node->plan, node->marks, transfer_point_16(code), transfer_point_8(timer));
 }
 
 static inline bool transfer_point_route_timer_runs(const struct transfer_point *node, uint64_t code, uint64_t set) {
-    return transfer_point_route_timer_lent(&node->plan, node->marks, transfer_point_16(code), transfer_point_8(set));
+    return transfer_point_route_timer_lent(node->plan, node->marks, transfer_point_16(code), transfer_point_8(set));
 }
 
 /* ---- A card driver's own record of a link, brought up to date where it lies with each send and acknowledgement whose reply is 0 */

@@ -12,8 +12,7 @@ use Rattle.plan.specs.Data.{noRoute, routesOf}
 use Rattle.plan.specs.Find.{given, placeOf, thereOf}
 use Rattle.routing.specs.declared.state.Need.{Need}
 use Rattle.routing.specs.State.{serves, isMarked}
-use Rattle.routing.specs.Which.{none, ofSets, linkFrom, chosen}
-use Rattle.routing.proofs.Ranks.{sets-alone}
+use Rattle.routing.specs.Which.{none, linkFrom, chosen}
 use Rattle.access.specs.declared.way.Direction.{Direction}
 use Rattle.access.specs.Way.{forUsers, linkFor, wayOf, directionOf, currentLink}
 
@@ -56,13 +55,12 @@ module _ (plan : Plan) (links marks : List ℕ) (need : Need) where
 
     -- one has it
     pub way-there : there .given ≡ true → (link : ℕ)
-        → link ≡ linkFrom (serves links need) (isMarked marks (there .place)) (ofSets (plan .sets)) sls 0 (there .routes)
+        → link ≡ linkFrom (serves links need) (isMarked marks (there .place)) plan sls 0 (there .routes)
         → _≡_ {A = Direction} (record { link = link; place = there .place }) (directionOf plan links marks need point sls)
     unfolding linkFor
     way-there e link chose =
         to link
         (chose
-        ∙ sets-alone (serves links need) (isMarked marks (there .place)) plan sls 0 (there .routes)
         ∙ ap (λ (routes : List Route). linkFrom (serves links need) (isMarked marks (there .place)) plan sls 0 routes) (routed e)
         ∙ ap (λ (f : There). linkFrom (serves links need) (isMarked marks (f .place)) plan sls 0 (routesOf plan (placeOf plan point))) searched
         ∙ by-search true e)

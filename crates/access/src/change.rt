@@ -1,7 +1,9 @@
 // Which destinations are accessible, and the report of those whose access changed.
 use crate::way::current;
-use plan::data::Plan;
+use planwords::read::count;
+use planwords::read::destination_code;
 use reports::report;
+ghost use Rattle.planwords.specs.Words.{planOf};
 ghost use mathlib.Core.Path.{_≡_};
 ghost use mathlib.Core.Bool.{false};
 ghost use Prim.Native.Nat.{ℕ};
@@ -11,26 +13,28 @@ ghost use Rattle.reports.specs.Report.{log};
 ghost use Rattle.access.specs.Change as Change;
 
 // How many destinations are given, of 64.
-pub fn given_of(plan: Plan) -> usize
-    ensures { λ r. ⌜ r ≡ given plan ⌝ }
+pub fn given_of(plan: &[u16; 1024]) -> usize
+    ensures { λ r. ⌜ r ≡ given (planOf plan) ⌝ }
 {
-    if plan.count < 64 {
-        plan.count as usize
-    } else {
-        64
-    }
+    let count = count(plan);
+    if count < 64 { count as usize } else { 64 }
 }
 
 // Whether a destination is accessible.
-pub fn accessible(plan: Plan, links: &[u32; 256], marks: &[u32; 512], destination: usize) -> bool
-    ensures { λ r. ⌜ r ≡ Change.isAccessible plan (now (links .entry)) (now (marks .entry)) destination ⌝ }
+pub fn accessible(
+    plan: &[u16; 1024],
+    links: &[u32; 256],
+    marks: &[u32; 512],
+    destination: usize,
+) -> bool
+    ensures { λ r. ⌜ r ≡ Change.isAccessible (planOf plan) (now (links .entry)) (now (marks .entry)) destination ⌝ }
 {
     current(plan, links, marks, destination, 0) < 32
 }
 
 // Which of the given destinations are accessible.
-pub fn accesses(plan: Plan, links: &[u32; 256], marks: &[u32; 512]) -> [bool; 64]
-    ensures { λ r. ⌜ r ≡ Change.accessesOf plan (now (links .entry)) (now (marks .entry)) ⌝ }
+pub fn accesses(plan: &[u16; 1024], links: &[u32; 256], marks: &[u32; 512]) -> [bool; 64]
+    ensures { λ r. ⌜ r ≡ Change.accessesOf (planOf plan) (now (links .entry)) (now (marks .entry)) ⌝ }
 {
     let mut each = [false; 64];
     let all = given_of(plan);
@@ -57,27 +61,26 @@ fn report_one(before: bool, after: bool, code: u16, reports: &mut [u64], count: 
 }
 
 // The code of a destination.
-fn code_of(plan: Plan, destination: usize) -> u16
-    ensures { λ r. ⌜ r ≡ Change.codeOf plan destination ⌝ }
+fn code_of(plan: &[u16; 1024], destination: usize) -> u16
+    ensures { λ r. ⌜ r ≡ Change.codeOf (planOf plan) destination ⌝ }
 {
     if 64 <= destination {
         return 0;
     }
-    let there = plan.destinations[destination];
-    there.code
+    destination_code(plan, destination)
 }
 
 // The report of each destination whose access isn't what it was before; how many records there are now.
 pub fn report_changes(
-    plan: Plan,
+    plan: &[u16; 1024],
     links: &[u32; 256],
     marks: &[u32; 512],
     before: [bool; 64],
     reports: &mut [u64],
     count: usize,
 ) -> usize
-    ensures { λ r. ⌜ r ≡ Change.changesTold plan (λ (d : ℕ). getD before d false) (Change.isAccessible plan (now (links .entry)) (now (marks .entry))) (log (now (reports .entry)) count) .count ⌝ }
-    ensures { λ r. ⌜ now (reports .exit) ≡ Change.changesTold plan (λ (d : ℕ). getD before d false) (Change.isAccessible plan (now (links .entry)) (now (marks .entry))) (log (now (reports .entry)) count) .area ⌝ }
+    ensures { λ r. ⌜ r ≡ Change.changesTold (planOf plan) (λ (d : ℕ). getD before d false) (Change.isAccessible (planOf plan) (now (links .entry)) (now (marks .entry))) (log (now (reports .entry)) count) .count ⌝ }
+    ensures { λ r. ⌜ now (reports .exit) ≡ Change.changesTold (planOf plan) (λ (d : ℕ). getD before d false) (Change.isAccessible (planOf plan) (now (links .entry)) (now (marks .entry))) (log (now (reports .entry)) count) .area ⌝ }
 {
     let all = given_of(plan);
     let mut told = count;

@@ -1,9 +1,9 @@
 // The way of a message to a point: the link that the rule gives it.
-use plan::data::Plan;
-use plan::find::seek;
+use planwords::find::seek;
 use routing::choose::choose;
 use routing::choose::choose_by;
 use routing::state::Need;
+ghost use Rattle.planwords.specs.Words.{planOf};
 ghost use mathlib.Core.Path.{_≡_};
 ghost use Rattle.access.specs.Way as Way;
 
@@ -32,14 +32,14 @@ pub struct Direction {
 
 // Both for an SLS, by one search.
 pub fn directed(
-    plan: Plan,
+    plan: &[u16; 1024],
     links: &[u32; 256],
     marks: &[u32; 512],
     need: Need,
     point: u16,
     sls: u8,
 ) -> Direction
-    ensures { λ r. ⌜ r ≡ Way.directionOf plan (now (links .entry)) (now (marks .entry)) need point sls ⌝ }
+    ensures { λ r. ⌜ r ≡ Way.directionOf (planOf plan) (now (links .entry)) (now (marks .entry)) need point sls ⌝ }
 {
     let there = seek(plan, point);
     let place = there.place;
@@ -47,21 +47,20 @@ pub fn directed(
         return Direction { link: 32, place };
     }
     let routes = there.routes;
-    let sets = plan.sets;
-    let link = choose_by(sets, routes, links, marks, need, place, sls);
+    let link = choose_by(plan, routes, links, marks, need, place, sls);
     Direction { link, place }
 }
 
 // The link to a point for an SLS, 32 where there is none.
 pub fn way(
-    plan: Plan,
+    plan: &[u16; 1024],
     links: &[u32; 256],
     marks: &[u32; 512],
     need: Need,
     point: u16,
     sls: u8,
 ) -> u8
-    ensures { λ r. ⌜ r ≡ Way.wayOf plan (now (links .entry)) (now (marks .entry)) need point sls ⌝ }
+    ensures { λ r. ⌜ r ≡ Way.wayOf (planOf plan) (now (links .entry)) (now (marks .entry)) need point sls ⌝ }
 {
     let to = directed(plan, links, marks, need, point, sls);
     to.link
@@ -69,13 +68,13 @@ pub fn way(
 
 // The link of a destination for an SLS, as user messages need it, 32 where there is none.
 pub fn current(
-    plan: Plan,
+    plan: &[u16; 1024],
     links: &[u32; 256],
     marks: &[u32; 512],
     destination: usize,
     sls: u8,
 ) -> u8
-    ensures { λ r. ⌜ r ≡ Way.currentLink plan (now (links .entry)) (now (marks .entry)) destination sls ⌝ }
+    ensures { λ r. ⌜ r ≡ Way.currentLink (planOf plan) (now (links .entry)) (now (marks .entry)) destination sls ⌝ }
 {
     choose(plan, links, marks, for_users(), destination, sls)
 }

@@ -11,12 +11,13 @@ use crate::taking::take_in;
 use changeover::fail::fail;
 use network::management::Message;
 use network::management::write_message;
-use plan::data::Plan;
+use planwords::read::code;
+use planwords::read::ni;
 use rows::link::load_link;
 use wire::header::Label;
 
 pub fn run(
-    plan: Plan,
+    plan: &[u16; 1024],
     links: &mut [u32; 256],
     marks: &mut [u32; 512],
     spans: &mut [u16; 70],
@@ -54,7 +55,7 @@ pub fn run(
 
 // One failure, its changeover, and link 1 open again; how many messages left over the other links.
 fn fail_once(
-    plan: Plan,
+    plan: &[u16; 1024],
     links: &mut [u32; 256],
     marks: &mut [u32; 512],
     spans: &mut [u16; 70],
@@ -97,7 +98,7 @@ fn fail_once(
 
 // So many messages queued on link 1, and sent.
 fn fill(
-    plan: Plan,
+    plan: &[u16; 1024],
     links: &mut [u32; 256],
     marks: &mut [u32; 512],
     spans: &mut [u16; 70],
@@ -108,7 +109,7 @@ fn fill(
     messages: u64,
     length: usize,
 ) {
-    let mut message = letter(plan, plan.code);
+    let mut message = letter(plan, code(plan));
     let round = Round {
         first: 0,
         many: messages,
@@ -131,7 +132,7 @@ fn fill(
 }
 
 fn fail_link(
-    plan: Plan,
+    plan: &[u16; 1024],
     links: &mut [u32; 256],
     marks: &mut [u32; 512],
     spans: &mut [u16; 70],
@@ -155,7 +156,7 @@ fn fail_link(
 
 // The COA comes in over link 2: the far end has none of the messages.
 fn take_answer(
-    plan: Plan,
+    plan: &[u16; 1024],
     links: &mut [u32; 256],
     marks: &mut [u32; 512],
     spans: &mut [u16; 70],
@@ -191,12 +192,12 @@ fn take_answer(
 }
 
 // The COA for link 1, from the neighbour behind its set.
-fn write_answer(plan: Plan, links: &[u32; 256], order: &mut [u8]) -> usize {
+fn write_answer(plan: &[u16; 1024], links: &[u32; 256], order: &mut [u8]) -> usize {
     let label = Label {
-        dpc: plan.code,
+        dpc: code(plan),
         opc: neighbour(plan, 1),
         sls: 0,
     };
     let known = load_link(links, 1);
-    write_message(plan.ni, label, Message::COA(known.acknowledged), order)
+    write_message(ni(plan), label, Message::COA(known.acknowledged), order)
 }

@@ -3,12 +3,11 @@ use crate::letter::Round;
 use crate::letter::counted;
 use crate::letter::with_sls;
 use passing::host::send_host;
-use plan::data::Plan;
 use text::part::between;
 
 // So many of one message, with SLS from the first on; how many are queued.
 pub fn hand_over(
-    plan: Plan,
+    plan: &[u16; 1024],
     links: &mut [u32; 256],
     marks: &mut [u32; 512],
     spans: &mut [u16; 70],

@@ -1,25 +1,23 @@
 // The messages that are moved: the first octets of an area, from one point to another.
-use plan::data::Plan;
+use planwords::read::count;
+use planwords::read::destination_code;
+use planwords::read::ni;
+use planwords::read::set_adjacent;
 
 // The destination behind all others of the plan.
-pub fn destination(plan: Plan) -> u16 {
-    let count = plan.count;
-    if count == 0 {
+pub fn destination(plan: &[u16; 1024]) -> u16 {
+    let many = count(plan);
+    if many == 0 {
         return 0;
     }
-    if 64 < count {
-        return 0;
-    }
-    let destinations = plan.destinations;
-    let last = destinations[(count - 1) as usize];
-    last.code
+    destination_code(plan, (many - 1) as usize)
 }
 
 // A message with SLS 0.
-pub fn letter(plan: Plan, opc: u16) -> [u8; 273] {
+pub fn letter(plan: &[u16; 1024], opc: u16) -> [u8; 273] {
     let mut octets = [90u8; 273];
     let word = destination(plan) as u32 + 16384 * (opc as u32 % 16384);
-    octets[0] = plan.ni % 4 * 64 + 5;
+    octets[0] = ni(plan) % 4 * 64 + 5;
     octets[1] = (word % 256) as u8;
     octets[2] = (word / 256 % 256) as u8;
     octets[3] = (word / 65536 % 256) as u8;
@@ -44,10 +42,8 @@ pub fn with_sls(octet: u8, number: u64, spread: bool) -> u8 {
 }
 
 // The neighbour behind set 0 or 1.
-pub fn neighbour(plan: Plan, set: usize) -> u16 {
-    let sets = plan.sets;
-    let those = sets[set % 8];
-    those.adjacent
+pub fn neighbour(plan: &[u16; 1024], set: u8) -> u16 {
+    set_adjacent(plan, set)
 }
 
 // One more where the reply is 0.

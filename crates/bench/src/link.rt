@@ -1,6 +1,5 @@
 // A link's part of the work: brought into service, emptied.
 use changeback::service::into_service;
-use plan::data::Plan;
 use replies::Answer;
 use sending::acknowledge::acknowledge;
 use sending::send::send;
@@ -8,7 +7,7 @@ use waiting::expire_wait;
 
 // Links 0 to 3 come into service, one after the other, and open.
 pub fn bring_in(
-    plan: Plan,
+    plan: &[u16; 1024],
     links: &mut [u32; 256],
     marks: &mut [u32; 512],
     spans: &mut [u16; 70],
@@ -36,7 +35,7 @@ pub fn bring_in(
 
 // A link comes into service; where it waits, its timers expire, and it opens. What it made the others send leaves.
 pub fn open(
-    plan: Plan,
+    plan: &[u16; 1024],
     links: &mut [u32; 256],
     marks: &mut [u32; 512],
     spans: &mut [u16; 70],
@@ -72,7 +71,7 @@ pub struct Gone {
 
 // All messages of a link are sent.
 pub fn send_all(
-    plan: Plan,
+    plan: &[u16; 1024],
     links: &mut [u32; 256],
     spans: &[u16; 70],
     rings: &[u8; 8960],
@@ -96,7 +95,7 @@ pub fn send_all(
 
 // All messages of a link are sent, and acknowledged; how many.
 fn empty(
-    plan: Plan,
+    plan: &[u16; 1024],
     links: &mut [u32; 256],
     spans: &mut [u16; 70],
     rings: &mut [u8; 8960],
@@ -113,7 +112,7 @@ fn empty(
 
 // The same of links 1 to 3.
 pub fn empty_all(
-    plan: Plan,
+    plan: &[u16; 1024],
     links: &mut [u32; 256],
     spans: &mut [u16; 70],
     rings: &mut [u8; 8960],

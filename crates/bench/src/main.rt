@@ -10,8 +10,6 @@ mod taking;
 mod work;
 
 use libc::STDERR_FILENO;
-use plan::data::Plan;
-use plan::data::empty_plan;
 use start::start;
 use work::Work;
 
@@ -31,6 +29,7 @@ fn main() {
 fn start_node(work: Work) {
     let mut text = io::large_buffer();
     let count = io::read_full(libc::STDIN_FILENO, &mut text);
+    let mut plan = [0u16; 1024];
     let mut links = [0u32; 256];
     let mut marks = [0u32; 512];
     let mut spans = [0u16; 70];
@@ -39,7 +38,7 @@ fn start_node(work: Work) {
     let mut octets = [0u8; 52416];
     let mut arrivals = [0u64; 1];
     let made = start(
-        empty_plan(),
+        &mut plan,
         &mut links,
         &mut marks,
         &mut spans,
@@ -52,7 +51,7 @@ fn start_node(work: Work) {
         return;
     }
     run(
-        made.plan,
+        &plan,
         &mut links,
         &mut marks,
         &mut spans,
@@ -73,7 +72,7 @@ fn say_faulty() {
 
 // Four links in service, and then what is asked for.
 fn run(
-    plan: Plan,
+    plan: &[u16; 1024],
     links: &mut [u32; 256],
     marks: &mut [u32; 512],
     spans: &mut [u16; 70],

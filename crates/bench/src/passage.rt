@@ -6,10 +6,10 @@ use crate::letter::neighbour;
 use crate::link::empty_all;
 use crate::show::show;
 use crate::taking::take_in;
-use plan::data::Plan;
+use planwords::read::code;
 
 pub fn run(
-    plan: Plan,
+    plan: &[u16; 1024],
     links: &mut [u32; 256],
     marks: &mut [u32; 512],
     spans: &mut [u16; 70],
@@ -58,13 +58,13 @@ pub fn run(
 }
 
 // Where the messages are from: the neighbour behind set 0, or this node.
-fn origin(plan: Plan, host: bool) -> u16 {
-    if host { plan.code } else { neighbour(plan, 0) }
+fn origin(plan: &[u16; 1024], host: bool) -> u16 {
+    if host { code(plan) } else { neighbour(plan, 0) }
 }
 
 // So many messages come; how many are queued.
 fn come(
-    plan: Plan,
+    plan: &[u16; 1024],
     links: &mut [u32; 256],
     marks: &mut [u32; 512],
     spans: &mut [u16; 70],

@@ -2,14 +2,13 @@
 use crate::letter::Round;
 use crate::letter::counted;
 use crate::letter::with_sls;
-use plan::data::Plan;
 use receiving::receive;
 use text::part::between;
 
 // So many of one message, numbered and with SLS from the first on; how many are answered with 0. The loop calls the node itself: a
 // function between the two would copy the plan for each message.
 pub fn take_in(
-    plan: Plan,
+    plan: &[u16; 1024],
     links: &mut [u32; 256],
     marks: &mut [u32; 512],
     spans: &mut [u16; 70],

@@ -2,7 +2,7 @@
 use access::change::given_of;
 use access::way::current;
 use lookup::set_of;
-use plan::data::Plan;
+ghost use Rattle.planwords.specs.Words.{planOf};
 ghost use mathlib.Core.Path.{_≡_};
 ghost use Rattle.changeback.specs.Pairs as Pairs;
 
@@ -14,7 +14,7 @@ pub struct Sources {
 
 // The link that a pair comes from, 32 where it doesn't come to this link from another.
 fn came_from(
-    plan: Plan,
+    plan: &[u16; 1024],
     before: &[u32; 256],
     after: &[u32; 256],
     marks: &[u32; 512],
@@ -22,7 +22,7 @@ fn came_from(
     destination: usize,
     sls: u8,
 ) -> u8
-    ensures { λ r. ⌜ r ≡ Pairs.cameFrom plan (now (before .entry)) (now (after .entry)) (now (marks .entry)) link destination sls ⌝ }
+    ensures { λ r. ⌜ r ≡ Pairs.cameFrom (planOf plan) (now (before .entry)) (now (after .entry)) (now (marks .entry)) link destination sls ⌝ }
 {
     let from = current(plan, before, marks, destination, sls);
     if from == link {
@@ -36,8 +36,8 @@ fn came_from(
 }
 
 // A source more.
-fn with_source(plan: Plan, link: u8, from: u8, known: Sources) -> Sources
-    ensures { λ r. ⌜ r ≡ Pairs.withSource plan link from known ⌝ }
+fn with_source(plan: &[u16; 1024], link: u8, from: u8, known: Sources) -> Sources
+    ensures { λ r. ⌜ r ≡ Pairs.withSource (planOf plan) link from known ⌝ }
 {
     if 32 <= from {
         return known;
@@ -59,13 +59,13 @@ fn with_source(plan: Plan, link: u8, from: u8, known: Sources) -> Sources
 
 // The sources of all pairs.
 pub fn sources_of(
-    plan: Plan,
+    plan: &[u16; 1024],
     before: &[u32; 256],
     after: &[u32; 256],
     marks: &[u32; 512],
     link: u8,
 ) -> Sources
-    ensures { λ r. ⌜ r ≡ Pairs.sourcesOf plan (now (before .entry)) (now (after .entry)) (now (marks .entry)) link ⌝ }
+    ensures { λ r. ⌜ r ≡ Pairs.sourcesOf (planOf plan) (now (before .entry)) (now (after .entry)) (now (marks .entry)) link ⌝ }
 {
     let all = 16 * given_of(plan);
     let mut known = Sources {

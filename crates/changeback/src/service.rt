@@ -6,7 +6,6 @@ use access::change::report_changes;
 use lookup::adjacent_of;
 use lookup::is_link;
 use lookup::slc_of;
-use plan::data::Plan;
 use queueing::queue::queue_management;
 use replies::Answer;
 use replies::done;
@@ -15,6 +14,7 @@ use reports::short;
 use rows::link::LinkRecord;
 use rows::link::load_link;
 use rows::link::store_link;
+ghost use Rattle.planwords.specs.Words.{planOf};
 ghost use mathlib.Core.Path.{_≡_};
 ghost use Rattle.replies.specs.Areas.{areas, Leaves};
 ghost use Rattle.making.specs.Make.{held};
@@ -46,8 +46,8 @@ fn comes_as(from: Sources) -> LinkRecord
 }
 
 // Which links its pairs come from.
-fn sources_in(plan: Plan, links: &[u32; 256], marks: &[u32; 512], link: u8) -> Sources
-    ensures { λ r. ⌜ r ≡ Service.sourcesIn plan (now (links .entry)) (now (marks .entry)) link ⌝ }
+fn sources_in(plan: &[u16; 1024], links: &[u32; 256], marks: &[u32; 512], link: u8) -> Sources
+    ensures { λ r. ⌜ r ≡ Service.sourcesIn (planOf plan) (now (links .entry)) (now (marks .entry)) link ⌝ }
 {
     let mut after = *links;
     store_link(&mut after, link, in_service(2, false, 0));
@@ -55,8 +55,8 @@ fn sources_in(plan: Plan, links: &[u32; 256], marks: &[u32; 512], link: u8) -> S
 }
 
 // The reply before its pairs are looked at.
-fn service_reply(plan: Plan, links: &[u32; 256], link: u8, reports: &[u64]) -> u8
-    ensures { λ r. ⌜ r ≡ Service.replyFirst plan (now (links .entry)) link (now (reports .entry)) ⌝ }
+fn service_reply(plan: &[u16; 1024], links: &[u32; 256], link: u8, reports: &[u64]) -> u8
+    ensures { λ r. ⌜ r ≡ Service.replyFirst (planOf plan) (now (links .entry)) link (now (reports .entry)) ⌝ }
 {
     if 32 <= link {
         return 1;
@@ -76,7 +76,7 @@ fn service_reply(plan: Plan, links: &[u32; 256], link: u8, reports: &[u64]) -> u
 
 // The CBD, where one is to be sent: 0, or 8 or 10.
 fn declare(
-    plan: Plan,
+    plan: &[u16; 1024],
     spans: &mut [u16; 70],
     rings: &mut [u8; 8960],
     rows: &mut [u64; 2048],
@@ -85,10 +85,10 @@ fn declare(
     from: Sources,
 ) -> u8
     ensures { λ r. ⌜ r ≡ Service.declareReply (now (spans .entry)) (now (arrivals .entry)) from ⌝ }
-    ensures { λ r. ⌜ now (spans .exit) ≡ Service.declared plan link from (held (now (spans .entry)) (now (rings .entry)) (now (rows .entry)) (now (arrivals .entry))) .queues .spans ⌝ }
-    ensures { λ r. ⌜ now (rings .exit) ≡ Service.declared plan link from (held (now (spans .entry)) (now (rings .entry)) (now (rows .entry)) (now (arrivals .entry))) .queues .rings ⌝ }
-    ensures { λ r. ⌜ now (rows .exit) ≡ Service.declared plan link from (held (now (spans .entry)) (now (rings .entry)) (now (rows .entry)) (now (arrivals .entry))) .rows ⌝ }
-    ensures { λ r. ⌜ now (arrivals .exit) ≡ Service.declared plan link from (held (now (spans .entry)) (now (rings .entry)) (now (rows .entry)) (now (arrivals .entry))) .arrivals ⌝ }
+    ensures { λ r. ⌜ now (spans .exit) ≡ Service.declared (planOf plan) link from (held (now (spans .entry)) (now (rings .entry)) (now (rows .entry)) (now (arrivals .entry))) .queues .spans ⌝ }
+    ensures { λ r. ⌜ now (rings .exit) ≡ Service.declared (planOf plan) link from (held (now (spans .entry)) (now (rings .entry)) (now (rows .entry)) (now (arrivals .entry))) .queues .rings ⌝ }
+    ensures { λ r. ⌜ now (rows .exit) ≡ Service.declared (planOf plan) link from (held (now (spans .entry)) (now (rings .entry)) (now (rows .entry)) (now (arrivals .entry))) .rows ⌝ }
+    ensures { λ r. ⌜ now (arrivals .exit) ≡ Service.declared (planOf plan) link from (held (now (spans .entry)) (now (rings .entry)) (now (rows .entry)) (now (arrivals .entry))) .arrivals ⌝ }
 {
     let own = from.own;
     if 32 <= own {
@@ -109,7 +109,7 @@ fn declare(
 
 // The link comes into service.
 pub fn into_service(
-    plan: Plan,
+    plan: &[u16; 1024],
     links: &mut [u32; 256],
     marks: &[u32; 512],
     spans: &mut [u16; 70],
@@ -119,7 +119,7 @@ pub fn into_service(
     link: u8,
     reports: &mut [u64],
 ) -> Answer
-    ensures { λ r. ⌜ Leaves (Service.intoService plan (areas (now (links .entry)) (now (marks .entry)) (now (spans .entry)) (now (rings .entry)) (now (rows .entry)) (now (arrivals .entry)) (now (reports .entry))) link) r (areas (now (links .exit)) (now (marks .entry)) (now (spans .exit)) (now (rings .exit)) (now (rows .exit)) (now (arrivals .exit)) (now (reports .exit))) ⌝ }
+    ensures { λ r. ⌜ Leaves (Service.intoService (planOf plan) (areas (now (links .entry)) (now (marks .entry)) (now (spans .entry)) (now (rings .entry)) (now (rows .entry)) (now (arrivals .entry)) (now (reports .entry))) link) r (areas (now (links .exit)) (now (marks .entry)) (now (spans .exit)) (now (rings .exit)) (now (rows .exit)) (now (arrivals .exit)) (now (reports .exit))) ⌝ }
 {
     let reply = service_reply(plan, links, link, reports);
     if 0 < reply {

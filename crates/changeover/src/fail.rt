@@ -6,7 +6,6 @@ use lookup::is_link;
 use lookup::slc_of;
 use making::Draft;
 use making::make;
-use plan::data::Plan;
 use replies::Answer;
 use replies::done;
 use replies::plain;
@@ -14,13 +13,14 @@ use reports::short;
 use rows::link::LinkRecord;
 use rows::link::load_link;
 use rows::link::store_link;
+ghost use Rattle.planwords.specs.Words.{planOf};
 ghost use mathlib.Core.Path.{_≡_};
 ghost use Rattle.replies.specs.Areas.{areas, Leaves};
 ghost use Rattle.changeover.specs.Fail as Fail;
 
 // The reply.
-fn fail_reply(plan: Plan, links: &[u32; 256], link: u8, reports: &[u64]) -> u8
-    ensures { λ r. ⌜ r ≡ Fail.replyOf plan (now (links .entry)) link (now (reports .entry)) ⌝ }
+fn fail_reply(plan: &[u16; 1024], links: &[u32; 256], link: u8, reports: &[u64]) -> u8
+    ensures { λ r. ⌜ r ≡ Fail.replyOf (planOf plan) (now (links .entry)) link (now (reports .entry)) ⌝ }
 {
     if 32 <= link {
         return 1;
@@ -42,8 +42,8 @@ fn fail_reply(plan: Plan, links: &[u32; 256], link: u8, reports: &[u64]) -> u8
 }
 
 // The COO of a link.
-fn order_of(plan: Plan, links: &[u32; 256], link: u8) -> Draft
-    ensures { λ r. ⌜ r ≡ Fail.orderOf plan (now (links .entry)) link ⌝ }
+fn order_of(plan: &[u16; 1024], links: &[u32; 256], link: u8) -> Draft
+    ensures { λ r. ⌜ r ≡ Fail.orderOf (planOf plan) (now (links .entry)) link ⌝ }
 {
     let known = load_link(links, link);
     Draft {
@@ -72,7 +72,7 @@ fn changing(known: LinkRecord, timer: u8) -> LinkRecord
 
 // An open link fails: a COO and T2, or T1.
 fn fail_open(
-    plan: Plan,
+    plan: &[u16; 1024],
     links: &mut [u32; 256],
     marks: &[u32; 512],
     spans: &mut [u16; 70],
@@ -82,7 +82,7 @@ fn fail_open(
     link: u8,
     reports: &[u64],
 ) -> Answer
-    ensures { λ r. ⌜ Leaves (Fail.openFailed plan (areas (now (links .entry)) (now (marks .entry)) (now (spans .entry)) (now (rings .entry)) (now (rows .entry)) (now (arrivals .entry)) (now (reports .entry))) link) r (areas (now (links .exit)) (now (marks .entry)) (now (spans .exit)) (now (rings .exit)) (now (rows .exit)) (now (arrivals .exit)) (now (reports .entry))) ⌝ }
+    ensures { λ r. ⌜ Leaves (Fail.openFailed (planOf plan) (areas (now (links .entry)) (now (marks .entry)) (now (spans .entry)) (now (rings .entry)) (now (rows .entry)) (now (arrivals .entry)) (now (reports .entry))) link) r (areas (now (links .exit)) (now (marks .entry)) (now (spans .exit)) (now (rings .exit)) (now (rows .exit)) (now (arrivals .exit)) (now (reports .entry))) ⌝ }
 {
     let order = order_of(plan, links, link);
     let sent = make(plan, links, marks, spans, rings, rows, arrivals, order);
@@ -94,7 +94,7 @@ fn fail_open(
 
 // The link fails.
 pub fn fail(
-    plan: Plan,
+    plan: &[u16; 1024],
     links: &mut [u32; 256],
     marks: &[u32; 512],
     spans: &mut [u16; 70],
@@ -104,7 +104,7 @@ pub fn fail(
     link: u8,
     reports: &mut [u64],
 ) -> Answer
-    ensures { λ r. ⌜ Leaves (Fail.failed plan (areas (now (links .entry)) (now (marks .entry)) (now (spans .entry)) (now (rings .entry)) (now (rows .entry)) (now (arrivals .entry)) (now (reports .entry))) link) r (areas (now (links .exit)) (now (marks .entry)) (now (spans .exit)) (now (rings .exit)) (now (rows .exit)) (now (arrivals .exit)) (now (reports .exit))) ⌝ }
+    ensures { λ r. ⌜ Leaves (Fail.failed (planOf plan) (areas (now (links .entry)) (now (marks .entry)) (now (spans .entry)) (now (rings .entry)) (now (rows .entry)) (now (arrivals .entry)) (now (reports .entry))) link) r (areas (now (links .exit)) (now (marks .entry)) (now (spans .exit)) (now (rings .exit)) (now (rows .exit)) (now (arrivals .exit)) (now (reports .exit))) ⌝ }
 {
     let reply = fail_reply(plan, links, link, reports);
     if 0 < reply {

@@ -2,20 +2,20 @@
 use ending::cut_unknown;
 use ending::end_service;
 use lookup::is_link;
-use plan::data::Plan;
 use replies::Answer;
 use replies::done;
 use replies::plain;
 use reports::short;
 use rows::link::load_link;
+ghost use Rattle.planwords.specs.Words.{planOf};
 ghost use mathlib.Core.Path.{_≡_};
 ghost use mathlib.Core.List.{[]};
 ghost use Rattle.replies.specs.Areas.{areas, Leaves};
 ghost use Rattle.changeover.specs.Timer as Timer;
 
 // The reply.
-fn expire_reply(plan: Plan, links: &[u32; 256], link: u8, timer: u8, reports: &[u64]) -> u8
-    ensures { λ r. ⌜ r ≡ Timer.replyOf plan (now (links .entry)) link timer (now (reports .entry)) ⌝ }
+fn expire_reply(plan: &[u16; 1024], links: &[u32; 256], link: u8, timer: u8, reports: &[u64]) -> u8
+    ensures { λ r. ⌜ r ≡ Timer.replyOf (planOf plan) (now (links .entry)) link timer (now (reports .entry)) ⌝ }
 {
     if 32 <= link {
         return 1;
@@ -41,7 +41,7 @@ fn expire_reply(plan: Plan, links: &[u32; 256], link: u8, timer: u8, reports: &[
 
 // T1 or T2 of a link expires.
 pub fn expire(
-    plan: Plan,
+    plan: &[u16; 1024],
     links: &mut [u32; 256],
     marks: &[u32; 512],
     spans: &mut [u16; 70],
@@ -51,7 +51,7 @@ pub fn expire(
     timer: u8,
     reports: &mut [u64],
 ) -> Answer
-    ensures { λ r. ⌜ Leaves (Timer.expired plan (areas (now (links .entry)) (now (marks .entry)) (now (spans .entry)) (now (rings .entry)) (now (rows .entry)) [] (now (reports .entry))) link timer) r (areas (now (links .exit)) (now (marks .entry)) (now (spans .exit)) (now (rings .exit)) (now (rows .entry)) [] (now (reports .exit))) ⌝ }
+    ensures { λ r. ⌜ Leaves (Timer.expired (planOf plan) (areas (now (links .entry)) (now (marks .entry)) (now (spans .entry)) (now (rings .entry)) (now (rows .entry)) [] (now (reports .entry))) link timer) r (areas (now (links .exit)) (now (marks .entry)) (now (spans .exit)) (now (rings .exit)) (now (rows .entry)) [] (now (reports .exit))) ⌝ }
 {
     let reply = expire_reply(plan, links, link, timer, reports);
     if 0 < reply {

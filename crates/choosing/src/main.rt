@@ -5,7 +5,7 @@ use libc::STDERR_FILENO;
 use libc::STDOUT_FILENO;
 use numerals::decimal::Number;
 use numerals::decimal::decimal;
-use plan::data::Plan;
+use planstore::words_of;
 use routing::choose::choose;
 
 fn main() {
@@ -20,7 +20,8 @@ fn main() {
     let mut text = io::large_buffer();
     let length = io::read_full(libc::STDIN_FILENO, &mut text);
     let made = configuration::configure::configure(text::part::between(&text, 0, length));
-    let sum = choose_all(made.plan, number(1, 32), count);
+    let plan = words_of(made.plan);
+    let sum = choose_all(&plan, number(1, 32), count);
     io::write_all(STDOUT_FILENO, b"links, added up\t");
     io::print_decimal(STDOUT_FILENO, sum);
     io::write_all(STDOUT_FILENO, b"\n");
@@ -28,7 +29,7 @@ fn main() {
 
 // The links of so many messages with every SLS in turn, added up. Each message that is sent is counted on its link, so that the
 // compiler can't choose once for all.
-fn choose_all(plan: Plan, out: u64, count: u64) -> u64 {
+fn choose_all(plan: &[u16; 1024], out: u64, count: u64) -> u64 {
     let mut links = all_but(out);
     let marks = [0u32; 512];
     let mut sum = 0;

@@ -3,12 +3,11 @@ use crate::events;
 use libc::STDOUT_FILENO;
 use node::call::Event;
 use node::call::call;
-use plan::data::Plan;
 use replies::Answer;
 
 // Every event once, with an output and a report area of any lengths.
 pub fn each(
-    plan: Plan,
+    plan: &[u16; 1024],
     links: &mut [u32; 256],
     marks: &mut [u32; 512],
     spans: &mut [u16; 70],
@@ -39,7 +38,7 @@ pub fn each(
 }
 
 fn one(
-    plan: Plan,
+    plan: &[u16; 1024],
     links: &mut [u32; 256],
     marks: &mut [u32; 512],
     spans: &mut [u16; 70],
@@ -71,7 +70,7 @@ fn one(
 
 // Some steps of the life of a link, one after the other.
 pub fn steps(
-    plan: Plan,
+    plan: &[u16; 1024],
     links: &mut [u32; 256],
     marks: &mut [u32; 512],
     spans: &mut [u16; 70],
@@ -90,7 +89,7 @@ pub fn steps(
 }
 
 pub fn step(
-    plan: Plan,
+    plan: &[u16; 1024],
     links: &mut [u32; 256],
     marks: &mut [u32; 512],
     spans: &mut [u16; 70],

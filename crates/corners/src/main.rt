@@ -4,7 +4,6 @@ mod ask;
 mod events;
 
 use libc::STDOUT_FILENO;
-use plan::data::empty_plan;
 use start::start;
 
 const CONFIGURATION: [u8; 94] =
@@ -24,6 +23,7 @@ fn title(text: &[u8]) {
 
 // Every event on a plan of zeros, with areas that are long enough and with none.
 fn without_node() {
+    let mut plan = [0u16; 1024];
     let mut links = [0u32; 256];
     let mut marks = [0u32; 512];
     let mut spans = [0u16; 70];
@@ -33,7 +33,7 @@ fn without_node() {
     let mut arrivals = [0u64; 1];
     title(b"no node");
     ask::each(
-        empty_plan(),
+        &plan,
         &mut links,
         &mut marks,
         &mut spans,
@@ -46,7 +46,7 @@ fn without_node() {
     );
     title(b"no node, hardly any areas");
     ask::each(
-        empty_plan(),
+        &plan,
         &mut links,
         &mut marks,
         &mut spans,
@@ -61,6 +61,7 @@ fn without_node() {
 
 // Every event on a fresh node, with areas one octet and one word too short, and with areas that are just long enough.
 fn too_short() {
+    let mut plan = [0u16; 1024];
     let mut links = [0u32; 256];
     let mut marks = [0u32; 512];
     let mut spans = [0u16; 70];
@@ -68,8 +69,8 @@ fn too_short() {
     let mut rows = [0u64; 2048];
     let mut octets = [0u8; 52416];
     let mut arrivals = [0u64; 1];
-    let made = start(
-        empty_plan(),
+    start(
+        &mut plan,
         &mut links,
         &mut marks,
         &mut spans,
@@ -79,7 +80,7 @@ fn too_short() {
     );
     title(b"areas one too short");
     ask::each(
-        made.plan,
+        &plan,
         &mut links,
         &mut marks,
         &mut spans,
@@ -92,7 +93,7 @@ fn too_short() {
     );
     title(b"areas just long enough but for the route list");
     ask::each(
-        made.plan,
+        &plan,
         &mut links,
         &mut marks,
         &mut spans,
@@ -107,6 +108,7 @@ fn too_short() {
 
 // One arrival number is left, and then none.
 fn last_number() {
+    let mut plan = [0u16; 1024];
     let mut links = [0u32; 256];
     let mut marks = [0u32; 512];
     let mut spans = [0u16; 70];
@@ -114,8 +116,8 @@ fn last_number() {
     let mut rows = [0u64; 2048];
     let mut octets = [0u8; 52416];
     let mut arrivals = [0u64; 1];
-    let made = start(
-        empty_plan(),
+    start(
+        &mut plan,
         &mut links,
         &mut marks,
         &mut spans,
@@ -123,10 +125,9 @@ fn last_number() {
         &mut arrivals,
         &CONFIGURATION,
     );
-    let plan = made.plan;
     title(b"the last arrival number");
     ask::step(
-        plan,
+        &plan,
         &mut links,
         &mut marks,
         &mut spans,
@@ -138,7 +139,7 @@ fn last_number() {
     );
     arrivals[0] = 9223372036854775807;
     ask::steps(
-        plan,
+        &plan,
         &mut links,
         &mut marks,
         &mut spans,
@@ -153,6 +154,7 @@ fn last_number() {
 
 // A configuration that is refused leaves the node that runs; one that is accepted makes a fresh one.
 fn configured_again() {
+    let mut plan = [0u16; 1024];
     let mut links = [0u32; 256];
     let mut marks = [0u32; 512];
     let mut spans = [0u16; 70];
@@ -160,8 +162,8 @@ fn configured_again() {
     let mut rows = [0u64; 2048];
     let mut octets = [0u8; 52416];
     let mut arrivals = [0u64; 1];
-    let first = start(
-        empty_plan(),
+    start(
+        &mut plan,
         &mut links,
         &mut marks,
         &mut spans,
@@ -171,7 +173,7 @@ fn configured_again() {
     );
     title(b"configured again");
     ask::step(
-        first.plan,
+        &plan,
         &mut links,
         &mut marks,
         &mut spans,
@@ -182,7 +184,7 @@ fn configured_again() {
         0,
     );
     let refused = start(
-        first.plan,
+        &mut plan,
         &mut links,
         &mut marks,
         &mut spans,
@@ -192,7 +194,7 @@ fn configured_again() {
     );
     ask::show(b"configuration", refused.fault);
     ask::steps(
-        refused.plan,
+        &plan,
         &mut links,
         &mut marks,
         &mut spans,
@@ -204,7 +206,7 @@ fn configured_again() {
         2,
     );
     ask::step(
-        refused.plan,
+        &plan,
         &mut links,
         &mut marks,
         &mut spans,
@@ -215,7 +217,7 @@ fn configured_again() {
         7,
     );
     let second = start(
-        refused.plan,
+        &mut plan,
         &mut links,
         &mut marks,
         &mut spans,
@@ -225,7 +227,7 @@ fn configured_again() {
     );
     ask::show(b"configuration", second.fault);
     ask::step(
-        second.plan,
+        &plan,
         &mut links,
         &mut marks,
         &mut spans,
@@ -236,7 +238,7 @@ fn configured_again() {
         7,
     );
     ask::step(
-        second.plan,
+        &plan,
         &mut links,
         &mut marks,
         &mut spans,

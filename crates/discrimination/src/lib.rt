@@ -2,11 +2,13 @@
 use network::management::Message;
 use network::management::MessageRead;
 use network::management::read_message;
-use plan::data::Plan;
+use planwords::read::code;
+use planwords::read::ni;
 use wire::header::Header;
 use wire::header::HeaderRead;
 use wire::header::Label;
 use wire::header::read_header;
+ghost use Rattle.planwords.specs.Words.{planOf};
 ghost use mathlib.Core.Path.{_≡_};
 ghost use Rattle.discrimination.specs.Discrimination as Discrimination;
 
@@ -31,12 +33,12 @@ pub enum Came {
 }
 
 // A message for our code.
-fn ours(plan: Plan, header: Header, message: &[u8]) -> Came
-    ensures { λ r. ⌜ r ≡ Discrimination.ours plan header (now (message .entry)) ⌝ }
+fn ours(plan: &[u16; 1024], header: Header, message: &[u8]) -> Came
+    ensures { λ r. ⌜ r ≡ Discrimination.ours (planOf plan) header (now (message .entry)) ⌝ }
 {
     let label = header.label;
     if 0 < header.si {
-        return if header.ni == plan.ni {
+        return if header.ni == ni(plan) {
             Came::Delivered
         } else {
             Came::Foreign
@@ -45,7 +47,7 @@ fn ours(plan: Plan, header: Header, message: &[u8]) -> Came
     let MessageRead::Read(read) = read_message(message) else {
         return Came::Malformed;
     };
-    if header.ni == plan.ni {
+    if header.ni == ni(plan) {
         Came::Managed(Order {
             point: label.opc,
             slc: label.sls,
@@ -57,17 +59,17 @@ fn ours(plan: Plan, header: Header, message: &[u8]) -> Came
 }
 
 // A message from a link.
-pub fn from_link(plan: Plan, message: &[u8]) -> Came
-    ensures { λ r. ⌜ r ≡ Discrimination.fromLink plan (now (message .entry)) ⌝ }
+pub fn from_link(plan: &[u16; 1024], message: &[u8]) -> Came
+    ensures { λ r. ⌜ r ≡ Discrimination.fromLink (planOf plan) (now (message .entry)) ⌝ }
 {
     let HeaderRead::Read(header) = read_header(message) else {
         return Came::Malformed;
     };
     let label = header.label;
-    if label.dpc == plan.code {
+    if label.dpc == code(plan) {
         return ours(plan, header, message);
     }
-    if header.ni == plan.ni {
+    if header.ni == ni(plan) {
         Came::Passed(label)
     } else {
         Came::Foreign
@@ -75,8 +77,8 @@ pub fn from_link(plan: Plan, message: &[u8]) -> Came
 }
 
 // A message from the host.
-pub fn from_host(plan: Plan, message: &[u8]) -> Came
-    ensures { λ r. ⌜ r ≡ Discrimination.fromHost plan (now (message .entry)) ⌝ }
+pub fn from_host(plan: &[u16; 1024], message: &[u8]) -> Came
+    ensures { λ r. ⌜ r ≡ Discrimination.fromHost (planOf plan) (now (message .entry)) ⌝ }
 {
     let HeaderRead::Read(header) = read_header(message) else {
         return Came::Malformed;
@@ -85,10 +87,10 @@ pub fn from_host(plan: Plan, message: &[u8]) -> Came
     if header.si == 0 {
         return Came::Malformed;
     }
-    if label.opc != plan.code {
+    if label.opc != code(plan) {
         return Came::Malformed;
     }
-    if header.ni == plan.ni {
+    if header.ni == ni(plan) {
         Came::Passed(label)
     } else {
         Came::Foreign

@@ -4,12 +4,12 @@ use access::change::report_changes;
 use counting::distance;
 use counting::in_range;
 use moving::move_all;
-use plan::data::Plan;
 use queueing::leave::drop_first;
 use queueing::leave::retire;
 use rows::link::LinkRecord;
 use rows::link::load_link;
 use rows::link::store_link;
+ghost use Rattle.planwords.specs.Words.{planOf};
 ghost use mathlib.Core.Path.{_≡_};
 ghost use Rattle.queueing.specs.Leave.{state};
 ghost use Rattle.ending.specs.End as End;
@@ -79,7 +79,7 @@ fn out_of(known: LinkRecord) -> LinkRecord
 
 // The queue of a link that is out is cleared; how many reports there are now.
 fn clear(
-    plan: Plan,
+    plan: &[u16; 1024],
     links: &[u32; 256],
     marks: &[u32; 512],
     spans: &mut [u16; 70],
@@ -90,10 +90,10 @@ fn clear(
     reports: &mut [u64],
     told: usize,
 ) -> usize
-    ensures { λ r. ⌜ r ≡ End.cleared plan (now (links .entry)) (now (marks .entry)) (now (rows .entry)) link parts (state (now (spans .entry)) (now (rings .entry)) (now (reports .entry)) told) .log .count ⌝ }
-    ensures { λ r. ⌜ now (reports .exit) ≡ End.cleared plan (now (links .entry)) (now (marks .entry)) (now (rows .entry)) link parts (state (now (spans .entry)) (now (rings .entry)) (now (reports .entry)) told) .log .area ⌝ }
-    ensures { λ r. ⌜ now (spans .exit) ≡ End.cleared plan (now (links .entry)) (now (marks .entry)) (now (rows .entry)) link parts (state (now (spans .entry)) (now (rings .entry)) (now (reports .entry)) told) .queues .spans ⌝ }
-    ensures { λ r. ⌜ now (rings .exit) ≡ End.cleared plan (now (links .entry)) (now (marks .entry)) (now (rows .entry)) link parts (state (now (spans .entry)) (now (rings .entry)) (now (reports .entry)) told) .queues .rings ⌝ }
+    ensures { λ r. ⌜ r ≡ End.cleared (planOf plan) (now (links .entry)) (now (marks .entry)) (now (rows .entry)) link parts (state (now (spans .entry)) (now (rings .entry)) (now (reports .entry)) told) .log .count ⌝ }
+    ensures { λ r. ⌜ now (reports .exit) ≡ End.cleared (planOf plan) (now (links .entry)) (now (marks .entry)) (now (rows .entry)) link parts (state (now (spans .entry)) (now (rings .entry)) (now (reports .entry)) told) .log .area ⌝ }
+    ensures { λ r. ⌜ now (spans .exit) ≡ End.cleared (planOf plan) (now (links .entry)) (now (marks .entry)) (now (rows .entry)) link parts (state (now (spans .entry)) (now (rings .entry)) (now (reports .entry)) told) .queues .spans ⌝ }
+    ensures { λ r. ⌜ now (rings .exit) ≡ End.cleared (planOf plan) (now (links .entry)) (now (marks .entry)) (now (rows .entry)) link parts (state (now (spans .entry)) (now (rings .entry)) (now (reports .entry)) told) .queues .rings ⌝ }
 {
     retire(spans, rings, link, parts.retired);
     let dropped = drop_first(
@@ -121,7 +121,7 @@ fn clear(
 
 // A link goes out: its queue is cleared and the access that changed reported; how many reports there are.
 pub fn end_service(
-    plan: Plan,
+    plan: &[u16; 1024],
     links: &mut [u32; 256],
     marks: &[u32; 512],
     spans: &mut [u16; 70],
@@ -131,11 +131,11 @@ pub fn end_service(
     parts: Cut,
     reports: &mut [u64],
 ) -> usize
-    ensures { λ r. ⌜ r ≡ End.ended plan (now (links .entry)) (now (marks .entry)) (now (rows .entry)) link parts (state (now (spans .entry)) (now (rings .entry)) (now (reports .entry)) 0) .log .count ⌝ }
-    ensures { λ r. ⌜ now (reports .exit) ≡ End.ended plan (now (links .entry)) (now (marks .entry)) (now (rows .entry)) link parts (state (now (spans .entry)) (now (rings .entry)) (now (reports .entry)) 0) .log .area ⌝ }
+    ensures { λ r. ⌜ r ≡ End.ended (planOf plan) (now (links .entry)) (now (marks .entry)) (now (rows .entry)) link parts (state (now (spans .entry)) (now (rings .entry)) (now (reports .entry)) 0) .log .count ⌝ }
+    ensures { λ r. ⌜ now (reports .exit) ≡ End.ended (planOf plan) (now (links .entry)) (now (marks .entry)) (now (rows .entry)) link parts (state (now (spans .entry)) (now (rings .entry)) (now (reports .entry)) 0) .log .area ⌝ }
     ensures { λ r. ⌜ now (links .exit) ≡ End.linksOut (now (links .entry)) link ⌝ }
-    ensures { λ r. ⌜ now (spans .exit) ≡ End.ended plan (now (links .entry)) (now (marks .entry)) (now (rows .entry)) link parts (state (now (spans .entry)) (now (rings .entry)) (now (reports .entry)) 0) .queues .spans ⌝ }
-    ensures { λ r. ⌜ now (rings .exit) ≡ End.ended plan (now (links .entry)) (now (marks .entry)) (now (rows .entry)) link parts (state (now (spans .entry)) (now (rings .entry)) (now (reports .entry)) 0) .queues .rings ⌝ }
+    ensures { λ r. ⌜ now (spans .exit) ≡ End.ended (planOf plan) (now (links .entry)) (now (marks .entry)) (now (rows .entry)) link parts (state (now (spans .entry)) (now (rings .entry)) (now (reports .entry)) 0) .queues .spans ⌝ }
+    ensures { λ r. ⌜ now (rings .exit) ≡ End.ended (planOf plan) (now (links .entry)) (now (marks .entry)) (now (rows .entry)) link parts (state (now (spans .entry)) (now (rings .entry)) (now (reports .entry)) 0) .queues .rings ⌝ }
 {
     let before = accesses(plan, links, marks);
     let known = load_link(links, link);

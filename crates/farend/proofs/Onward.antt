@@ -10,11 +10,11 @@ use lib.Dec.{lit<}
 use lib.ListN.{length}
 use Rattle.plan.proofs.Split.{alike}
 use Rattle.rows.specs.declared.link.LinkRecord.{LinkRecord}
-use Rattle.rows.specs.Rows.{recordAt, withRecord}
+use Rattle.rows.specs.Rows.{recordAt}
 use Rattle.replies.specs.Areas.{Areas, withLinks, withMarks}
-use Rattle.numbers.specs.Numbers.{receivedTo, taken}
+use Rattle.numbers.specs.Numbers.{taken}
 use Rattle.promises.proofs.Keeping.{loaded-in-range}
-use Rattle.promises.proofs.Records.{record-same, record-other}
+use Rattle.promises.proofs.Records.{Rewritten, received-rewritten}
 use Rattle.accounts.specs.Gone.{queueOf}
 
 -- a record with the numbers of another, that isn't in service where the other isn't
@@ -23,8 +23,16 @@ pub record Same (known new : LinkRecord) : Type 0 where
   pub sent-same : new .sent ≡ known .sent
   pub still-out : known .state ≡ 0 → new .state ≡ 0
 
+-- as one that is the other
+pub same-if : (known new : LinkRecord) → new ≡ known → Same known new
+same-if known new is = record {
+  acknowledged-same = ap (λ (k : LinkRecord). k .acknowledged) is;
+  sent-same = ap (λ (k : LinkRecord). k .sent) is;
+  still-out = λ e. ap (λ (k : LinkRecord). k .state) is ∙ e;
+}
+
 pub same-self : (known : LinkRecord) → Same known known
-same-self known = record { acknowledged-same = refl; sent-same = refl; still-out = λ e. e }
+same-self known = same-if known known refl
 
 pub same-on : (first next last : LinkRecord) → Same first next → Same next last → Same first last
 same-on first next last one two =
@@ -61,16 +69,18 @@ onward-on but a b c one two = record {
 }
 
 -- a record that is stored with the numbers that it had
-pub stored : (links : List ℕ) → length links ≡ 256 → (link : ℕ) (new : LinkRecord) → Same (recordAt links link) new → (other : ℕ)
+stored : (links : List ℕ) → length links ≡ 256 → (link : ℕ) (new : LinkRecord) (after : List ℕ) → Rewritten links link new after
+    → Same (recordAt links link) new
+    → (other : ℕ)
     → other < 32
-    → Same (recordAt links other) (recordAt (withRecord links link new) other)
-stored links long link new same other h =
+    → Same (recordAt links other) (recordAt after other)
+stored links long link new after rewritten same other h =
     alike other link
     (λ here.
     let within : link < 32 = omega arith in
     let low : recordAt links link .acknowledged < 128 = mod-lt _ (lit< tt) in
     let few = loaded-in-range links link .sent-low in
-    let there = record-same links link new long within in
+    let there = rewritten .there long within in
     simp here
     (record {
       acknowledged-same =
@@ -78,30 +88,26 @@ stored links long link new same other h =
       sent-same = ap (λ (k : LinkRecord). k .sent) there ∙ mod-eq-of-lt (omega (arith, same .sent-same)) ∙ same .sent-same;
       still-out = λ e. ap (λ (k : LinkRecord). k .state) there ∙ ap (λ (n : ℕ). n % 4) (same .still-out e);
     }))
-    (λ apart.
-    let there = record-other links link new other apart in
-    record {
-      acknowledged-same = ap (λ (k : LinkRecord). k .acknowledged) there;
-      sent-same = ap (λ (k : LinkRecord). k .sent) there;
-      still-out = λ e. ap (λ (k : LinkRecord). k .state) there ∙ e;
-    })
+    (λ apart. same-if (recordAt links other) (recordAt after other) (rewritten .others other apart))
 
 -- links with another record, and flags, hold no messages
-pub onward-stored : (but : ℕ) (a b : Areas) → length (b .links) ≡ 256 → Onward but a b → (link : ℕ) (new : LinkRecord)
+pub onward-stored : (but : ℕ) (a b : Areas) → length (b .links) ≡ 256 → Onward but a b
+    → {link : ℕ} {new : LinkRecord} {after : List ℕ}
+    → Rewritten (b .links) link new after
     → Same (recordAt (b .links) link) new
-    → Onward but a (withLinks b (withRecord (b .links) link new))
-onward-stored but a b long onward link new same =
-    onward-on but a b (withLinks b (withRecord (b .links) link new)) onward
+    → Onward but a (withLinks b after)
+onward-stored but a b long onward {link} {new} {after} rewritten same =
+    onward-on but a b (withLinks b after) onward
     (record {
       queues = λ other h apart. ([], sym (append-nil (queueOf b other)));
-      records = λ other h apart. stored (b .links) long link new same other h;
+      records = λ other h apart. stored (b .links) long link new after rewritten same other h;
     })
 
 pub onward-taken : (but : ℕ) (a b : Areas) → length (b .links) ≡ 256 → Onward but a b → (arriving fsn : ℕ)
     → Onward but a (withLinks b (taken (b .links) arriving fsn))
 unfolding taken
 onward-taken but a b long onward arriving fsn =
-    onward-stored but a b long onward arriving (receivedTo (recordAt (b .links) arriving) fsn)
+    onward-stored but a b long onward (received-rewritten (b .links) arriving fsn)
     (record { acknowledged-same = refl; sent-same = refl; still-out = λ e. e })
 
 pub onward-marks : (but : ℕ) (a b : Areas) → Onward but a b → (marks : List ℕ) → Onward but a (withMarks b marks)

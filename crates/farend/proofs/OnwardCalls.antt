@@ -13,13 +13,13 @@ use Rattle.plan.specs.declared.data.Plan.{Plan}
 use Rattle.plan.specs.Find.{placeOf}
 use Rattle.plan.proofs.Split.{both-false}
 use Rattle.rows.specs.declared.link.LinkRecord.{LinkRecord}
-use Rattle.rows.specs.Rows.{recordAt, withRecord, withFlag}
+use Rattle.rows.specs.Rows.{recordAt, withRecord, withAcknowledged, withSent, withFlag}
 use Rattle.reports.specs.Report.{short, room}
 use Rattle.replies.specs.Areas.{Areas, areas, Outcome, refused, withLinks}
 use Rattle.lookup.specs.Lookup.{isLink, slcOf, adjacentOf}
 use Rattle.queueing.specs.Head.{Queues, both}
 use Rattle.queueing.specs.Leave.{State, state, retired}
-use Rattle.numbers.specs.Numbers.{upTo, sentOne, acknowledgedTo}
+use Rattle.numbers.specs.Numbers.{oneMore, upTo, leftSent}
 use Rattle.making.specs.Make.{Held, heldIn, withHeld, withMade, makesReply}
 use Rattle.ending.specs.End.{cutNone, cutUnknown, outOfService}
 use Rattle.changeover.specs.Fail.{stateAt, orderOf, changing, timerOf, openFailed, failed}
@@ -39,28 +39,17 @@ use Rattle.node.specs.declared.call.Event.{Event}
 use Rattle.node.specs.declared.call.Event.the-variants.{IntoService, Failure, Send, Acknowledgement, Received, FromHost, T1, T2, T3, T4, T6, T8, T10, RouteList}
 use Rattle.node.specs.Memory.{Memory}
 use Rattle.node.specs.Call.{sends, acknowledges, waitEnds, t8Ends, lists, receives, takesOver, callOf}
-use Rattle.promises.proofs.Records.{record-other}
+use Rattle.promises.proofs.Records.{record-rewritten, sent-rewritten, acknowledged-rewritten}
 use Rattle.promises.proofs.Outcomes.{RegularIn, by-test, if-done, if-both-done, rows-passed, link-within}
 use Rattle.accounts.specs.Gone.{queueOf}
 use Rattle.accounts.specs.Ending.{endingByTimer, endingByFailure, endingOf}
 use Rattle.accounts.proofs.EvenMaking.{joined}
-use Rattle.farend.proofs.Onward.{Same, same-self, Onward, onward-none, stored, onward-stored}
+use Rattle.farend.proofs.Onward.{same-if, same-self, Onward, onward-none, onward-stored}
 use Rattle.farend.proofs.OnwardMade.{joined-onward, made-onward, out-onward, released-grows}
 use Rattle.farend.proofs.Tests.{by-done, two-tests}
 use Rattle.farend.proofs.Retired.{others-left}
 use Rattle.farend.proofs.OnwardPassing.{sent-onward}
 use Rattle.farend.proofs.OnwardReceiving.{butOf, stopped-same, received-onward}
-
--- another link's record is stored: the others are as they were
-pub others-same : (links : List ℕ) (link : ℕ) (new : LinkRecord) (other : ℕ) → (other ≡ link → ⊥)
-    → Same (recordAt links other) (recordAt (withRecord links link new) other)
-others-same links link new other apart =
-    let same = record-other links link new other apart in
-    record {
-      acknowledged-same = ap (λ (k : LinkRecord). k .acknowledged) same;
-      sent-same = ap (λ (k : LinkRecord). k .sent) same;
-      still-out = λ out. ap (λ (k : LinkRecord). k .state) same ∙ out;
-    }
 
 module _ (plan : Plan) (a : Areas) (octets : List ℕ) (regular : RegularIn a octets) where
   -- the link that an event is about
@@ -90,8 +79,7 @@ module _ (plan : Plan) (a : Areas) (octets : List ℕ) (regular : RegularIn a oc
     open-onward is =
         onward-stored 32 a (withMade plan (orderOf plan (a .links) link) a) (regular .links-long)
         (made-onward a octets regular plan (orderOf plan (a .links) link))
-        link
-        (changing known (timerOf plan a link))
+        (record-rewritten (a .links) link (changing known (timerOf plan a link)))
         (record { acknowledged-same = refl; sent-same = refl; still-out = λ out. absurd (omega (arith, is)) })
 
     failure-onward : Onward (butOf (endingByFailure plan a link)) a (failed plan a link .after)
@@ -132,7 +120,7 @@ module _ (plan : Plan) (a : Areas) (octets : List ℕ) (regular : RegularIn a oc
         (λ done.
         record {
           queues = λ other h apart. there .queues other h (λ e. omega arith);
-          records = λ other h apart. others-same (a .links) link (comesAs from) other apart;
+          records = λ other h apart. same-if _ _ (record-rewritten (a .links) link (comesAs from) .others other apart);
         })
         (onward-none link a)
 
@@ -143,7 +131,9 @@ module _ (plan : Plan) (a : Areas) (octets : List ℕ) (regular : RegularIn a oc
         if-done (λ (l : List ℕ). Onward 32 a (withLinks a l)) (Wait.replyOf plan (a .links) link timer)
         (withRecord (a .links) link (stopped known timer))
         (a .links)
-        (λ done. onward-stored 32 a a (regular .links-long) (onward-none 32 a) link (stopped known timer) (stopped-same known timer))
+        (λ done.
+        onward-stored 32 a a (regular .links-long) (onward-none 32 a) (record-rewritten (a .links) link (stopped known timer))
+        (stopped-same known timer))
         (record { queues = onward-none 32 a .queues; records = onward-none 32 a .records })
 
     -- a send
@@ -151,12 +141,12 @@ module _ (plan : Plan) (a : Areas) (octets : List ℕ) (regular : RegularIn a oc
     unfolding Send.linksAfter
     send-onward room =
         if-done (λ (l : List ℕ). Onward link a (withLinks a l)) (Send.replyOf plan (a .links) (a .spans) link room)
-        (withRecord (a .links) link (sentOne known))
+        (withSent (a .links) link (oneMore known))
         (a .links)
         (λ done.
         record {
           queues = onward-none link a .queues;
-          records = λ other h apart. others-same (a .links) link (sentOne known) other apart;
+          records = λ other h apart. same-if _ _ (sent-rewritten (a .links) link (oneMore known) .others other apart);
         })
         (record { queues = onward-none link a .queues; records = onward-none link a .records })
 
@@ -183,7 +173,7 @@ module _ (plan : Plan) (a : Areas) (octets : List ℕ) (regular : RegularIn a oc
         if-both-done
         (λ (l : List ℕ) (q : Queues). Onward link a (areas l (a .marks) (q .spans) (q .rings) (a .rows) (a .arrivals) (a .reports)))
         (Acknowledge.replyOf plan (a .links) link b)
-        (withRecord (a .links) link (acknowledgedTo known b))
+        (withAcknowledged (withSent (a .links) link (leftSent known b)) link b)
         (a .links)
         (retired link (upTo known b) (both (a .spans) (a .rings)))
         (both (a .spans) (a .rings))
@@ -195,7 +185,7 @@ module _ (plan : Plan) (a : Areas) (octets : List ℕ) (regular : RegularIn a oc
               others-left (a .rows) octets link (omega (arith, within b done)) (upTo known b) (both (a .spans) (a .rings)) (regular .store) other (omega arith) apart
               in
               ([], same ∙ sym (append-nil (queueOf a other)));
-          records = λ other h apart. others-same (a .links) link (acknowledgedTo known b) other apart;
+          records = λ other h apart. same-if _ _ (acknowledged-rewritten (a .links) link b (leftSent known b) .others other apart);
         })
         (record { queues = onward-none link a .queues; records = onward-none link a .records })
 

@@ -13,7 +13,7 @@ use borrow.Table.Elements.{map-app}
 use borrow.Table.Steps.{cases}
 use Rattle.plan.specs.declared.data.Plan.{Plan}
 use Rattle.plan.proofs.Split.{alike}
-use Rattle.rows.specs.Rows.{recordAt, withRecord}
+use Rattle.rows.specs.Rows.{recordAt}
 use Rattle.rings.specs.Ring.{countOf}
 use Rattle.reports.specs.Report.{short}
 use Rattle.replies.specs.Areas.{Areas}
@@ -25,7 +25,7 @@ use Rattle.making.specs.Make.{Held, pathOf, hasPath, made, heldIn, withHeld, wi
 use Rattle.moving.specs.Move.{apart, pointOf, goesTo, movedOne, releasedOne, released}
 use Rattle.ending.specs.declared.Cut.{Cut}
 use Rattle.ending.specs.End.{outOf, linksOut, outOfService}
-use Rattle.promises.proofs.Records.{record-other}
+use Rattle.promises.proofs.Records.{record-rewritten}
 use Rattle.promises.proofs.Outcomes.{RegularIn, by-test}
 use Rattle.promises.proofs.Leaving.{repeated}
 use Rattle.ledger.specs.Held.{arrivalOf, numbers}
@@ -38,7 +38,7 @@ use Rattle.leaving.proofs.Queues.{head-found, head-is, head-none, moved-to, mov
 use Rattle.accounts.specs.Gone.{queueOf}
 use Rattle.accounts.proofs.EvenMaking.{joined}
 use Rattle.accounts.proofs.Endings.{out-exactly}
-use Rattle.farend.proofs.Onward.{Same, same-self, Onward, onward-none}
+use Rattle.farend.proofs.Onward.{same-if, same-self, Onward, onward-none}
 
 module _ (a : Areas) (octets : List ℕ) (regular : RegularIn a octets) where
   -- a management message at the end of a queue
@@ -74,13 +74,7 @@ module _ (a : Areas) (octets : List ℕ) (regular : RegularIn a octets) where
       record {
         queues = λ other l apart. (_, exact .ended .cleared .joined other l apart);
         records =
-            λ other l apart.
-            let same = record-other (a .links) link (outOf (recordAt (a .links) link)) other apart in
-            record {
-              acknowledged-same = ap (λ k. k .acknowledged) same;
-              sent-same = ap (λ k. k .sent) same;
-              still-out = λ e. ap (λ k. k .state) same ∙ e;
-            };
+            λ other l apart. same-if _ _ (record-rewritten (a .links) link (outOf (recordAt (a .links) link)) .others other apart);
       }
 
 -- the queues of links with what is new behind what they had

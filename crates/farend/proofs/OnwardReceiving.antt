@@ -31,6 +31,7 @@ use Rattle.discrimination.specs.declared.Came.the-variants.{Malformed, Foreign,
 use Rattle.discrimination.specs.Discrimination.{fromLink}
 use Rattle.receiving.specs.Receive.{receivedBy, received}
 use Rattle.receiving.specs.Receive as Receive
+use Rattle.promises.proofs.Records.{record-rewritten}
 use Rattle.promises.proofs.Outcomes.{RegularIn, by-test, if-both-done}
 use Rattle.promises.proofs.KeepsOrders.{with-taken-regular}
 use Rattle.accounts.specs.Ending.{Ending, noEnding, endingByStep, endingByMessage}
@@ -71,8 +72,8 @@ module _ (plan : Plan) (a : Areas) (octets : List ℕ) (regular : RegularIn a oc
       let link = linkNamed plan point slc in
       by-test (λ (o : Outcome). Onward 32 a (o .after)) (answers plan (a .links) point slc code) _ _
       (λ e.
-      onward-stored 32 a b (with-taken-regular octets a regular arriving fsn .links-long) (taken-only plan a octets regular arriving fsn) link
-      (stopped (recordAt (b .links) link) 4)
+      onward-stored 32 a b (with-taken-regular octets a regular arriving fsn .links-long) (taken-only plan a octets regular arriving fsn)
+      (record-rewritten (b .links) link (stopped (recordAt (b .links) link) 4))
       (stopped-same (recordAt (b .links) link) 4))
       (λ e. taken-only plan a octets regular arriving fsn)
 

@@ -17,20 +17,20 @@ use Rattle.plan.proofs.Split.{alike, both-false}
 use Rattle.counting.specs.Counting.{distance, onward}
 use Rattle.counting.proofs.Laws.{onward-distance}
 use Rattle.rows.specs.declared.link.LinkRecord.{LinkRecord}
-use Rattle.rows.specs.Rows.{recordAt, withRecord}
+use Rattle.rows.specs.Rows.{recordAt}
 use Rattle.rings.specs.Ring.{countOf, queue}
 use Rattle.rings.proofs.Queues.{queue-length}
 use Rattle.replies.specs.Reply.{ifDone}
 use Rattle.replies.specs.Areas.{Areas}
 use Rattle.lookup.specs.Lookup.{isLink}
 use Rattle.queueing.specs.Head.{both}
-use Rattle.numbers.specs.Numbers.{upTo, sentOne, acknowledgedTo}
+use Rattle.numbers.specs.Numbers.{oneMore, upTo, leftSent}
 use Rattle.sending.specs.Acknowledge as Acknowledge
 use Rattle.sending.specs.Send as Send
 use Rattle.sending.proofs.Window.{one-more-sent, retired-and-left}
 use Rattle.changeback.specs.declared.pairs.Sources.{Sources}
 use Rattle.changeback.specs.Service.{comesAs}
-use Rattle.promises.proofs.Records.{record-same}
+use Rattle.promises.proofs.Records.{withNumbers, Rewritten}
 use Rattle.promises.proofs.Outcomes.{RegularIn, rows-passed, link-within}
 use Rattle.ledger.specs.Held.{arrivalOf, numbers}
 use Rattle.accounts.specs.Gone.{queueOf, upToB}
@@ -87,13 +87,14 @@ module _ (plan : Plan) (a : Areas) (octets : List ℕ) (regular : RegularIn a oc
           ∙ onward-distance 128 (lit< tt) (known .acknowledged) b
           ∙ mod-eq-of-lt b-below
 
-      pub acknowledged-serving : (after : Areas) → after .links ≡ withRecord (a .links) link (acknowledgedTo known b)
+      pub acknowledged-serving : (after : Areas)
+          → Rewritten (a .links) link (withNumbers known b (known .received) (leftSent known b)) (after .links)
           → Serving after link (record { acknowledged = s .acknowledged ++ upToB plan a link b; sent = s .sent })
-      acknowledged-serving after e =
-          let there = ap (λ (l : List ℕ). recordAt l link) e ∙ record-same (a .links) link (acknowledgedTo known b) (regular .links-long) h in
+      acknowledged-serving after rewritten =
+          let there = rewritten .there (regular .links-long) h in
           let left = retired-and-left plan (a .links) link b done in
-          let few : acknowledgedTo known b .sent < 128 = mod-lt _ (lit< tt) in
-          let sent-now : recordAt (after .links) link .sent ≡ acknowledgedTo known b .sent =
+          let few : leftSent known b < 128 = mod-lt _ (lit< tt) in
+          let sent-now : recordAt (after .links) link .sent ≡ leftSent known b =
           ap (λ (k : LinkRecord). k .sent) there ∙ mod-eq-of-lt few
           in
           record {
@@ -103,14 +104,15 @@ module _ (plan : Plan) (a : Areas) (octets : List ℕ) (regular : RegularIn a oc
 
   -- a send that is done
   pub sent-serving : (spans : List ℕ) (room : ℕ) → Send.replyOf plan (a .links) spans link room ≡ 0 → (s : Service) → Serving a link s
-      → (after : Areas) → after .links ≡ withRecord (a .links) link (sentOne known)
+      → (after : Areas)
+      → Rewritten (a .links) link (withNumbers known (known .acknowledged) (known .received) (oneMore known)) (after .links)
       → Serving after link (record { acknowledged = s .acknowledged; sent = s .sent + 1 })
-  sent-serving spans room done s serving after e =
-      let there = ap (λ (l : List ℕ). recordAt l link) e ∙ record-same (a .links) link (sentOne known) (regular .links-long) h in
+  sent-serving spans room done s serving after rewritten =
+      let there = rewritten .there (regular .links-long) h in
       let one = one-more-sent plan (a .links) spans link room done in
-      let few : sentOne known .sent < 128 = mod-lt _ (lit< tt) in
+      let few : oneMore known < 128 = mod-lt _ (lit< tt) in
       let low : known .acknowledged < 128 = mod-lt _ (lit< tt) in
-      let sent-now : recordAt (after .links) link .sent ≡ sentOne known .sent =
+      let sent-now : recordAt (after .links) link .sent ≡ oneMore known =
       ap (λ (k : LinkRecord). k .sent) there ∙ mod-eq-of-lt few
       in
       record {
@@ -119,9 +121,9 @@ module _ (plan : Plan) (a : Areas) (octets : List ℕ) (regular : RegularIn a oc
       }
 
   -- a link that has come into service
-  pub begun-serving : (from : Sources) (after : Areas) → after .links ≡ withRecord (a .links) link (comesAs from) → Serving after link begun
-  begun-serving from after e =
-      let there = ap (λ (l : List ℕ). recordAt l link) e ∙ record-same (a .links) link (comesAs from) (regular .links-long) h in
+  pub begun-serving : (from : Sources) (after : Areas) → Rewritten (a .links) link (comesAs from) (after .links) → Serving after link begun
+  begun-serving from after rewritten =
+      let there = rewritten .there (regular .links-long) h in
       let none : recordAt (after .links) link .sent ≡ 0 = ap (λ (k : LinkRecord). k .sent) there in
       record {
         sent-is = omega (arith, none);

@@ -13,13 +13,13 @@ use Rattle.plan.specs.declared.data.Plan.{Plan}
 use Rattle.plan.specs.Sound as Plan
 use Rattle.plan.proofs.Split.{alike}
 use Rattle.rows.specs.declared.link.LinkRecord.{LinkRecord}
-use Rattle.rows.specs.Rows.{recordAt, withRecord}
+use Rattle.rows.specs.Rows.{recordAt, withAcknowledged, withSent}
 use Rattle.replies.specs.declared.Answer.{Answer}
 use Rattle.replies.specs.Reply.{plain}
 use Rattle.replies.specs.Areas.{Areas, areas, Outcome, refused, withLinks}
 use Rattle.queueing.specs.Head.{both}
-use Rattle.numbers.specs.Numbers.{sentOne, acknowledgedTo}
-use Rattle.changeback.specs.Service.{sourcesIn, linksIn, intoService}
+use Rattle.numbers.specs.Numbers.{oneMore, leftSent}
+use Rattle.changeback.specs.Service.{comesAs, sourcesIn, linksIn, intoService}
 use Rattle.changeback.specs.Service as Service
 use Rattle.sending.specs.Send as Send
 use Rattle.sending.specs.Acknowledge as Acknowledge
@@ -28,7 +28,7 @@ use Rattle.node.specs.declared.call.Event.the-variants.{IntoService, Failure, S
 use Rattle.node.specs.Memory.{Memory, Result}
 use Rattle.node.specs.Call.{sends, acknowledges, callOf}
 use Rattle.promises.specs.Run.{Call, lent, called, ran}
-use Rattle.promises.proofs.Records.{record-same}
+use Rattle.promises.proofs.Records.{Rewritten, record-rewritten, sent-rewritten, acknowledged-rewritten}
 use Rattle.promises.proofs.Outcomes.{by-test, both-by-test}
 use Rattle.promises.proofs.KeepsCalls.{RegularAt, call-regular}
 use Rattle.accounts.specs.Gone.{upToB}
@@ -104,14 +104,17 @@ module _ (plan : Plan) (message : List ℕ) (m : Memory) (regular : RegularAt m)
       let reply = Service.replyOf plan a link in
       let here = eq-eqb link link refl in
       by-test (λ (o : Outcome). InService (o .after) link (cond (eqb link link && eqb (o .answer .reply) 0) begun s)) (eqb reply 0) _ (refused reply a)
-      (λ done up. simp here (begun-serving plan a (m .octets) regular link h (sourcesIn plan (a .links) (a .marks) link) _ refl))
+      (λ done up.
+      let from = sourcesIn plan (a .links) (a .marks) link in
+      simp here (begun-serving plan a (m .octets) regular link h from _ (record-rewritten (a .links) link (comesAs from))))
       (λ refuses up. simp (here, refuses) (before up))
 
   -- a record that is stored with its state is out where it was
-  state-stays : (new : LinkRecord) → new .state ≡ recordAt (a .links) link .state → recordAt (a .links) link .state ≡ 0
-      → recordAt (withRecord (a .links) link new) link .state ≡ 0
-  state-stays new same out =
-      ap (λ (k : LinkRecord). k .state) (record-same (a .links) link new (regular .links-long) h)
+  state-stays : {new : LinkRecord} {after : List ℕ} → Rewritten (a .links) link new after → new .state ≡ recordAt (a .links) link .state
+      → recordAt (a .links) link .state ≡ 0
+      → recordAt after link .state ≡ 0
+  state-stays rewritten same out =
+      ap (λ (k : LinkRecord). k .state) (rewritten .there (regular .links-long) h)
       ∙ ap (λ (n : ℕ). n % 4) (same ∙ out)
 
   -- a message is sent on it
@@ -122,6 +125,8 @@ module _ (plan : Plan) (message : List ℕ) (m : Memory) (regular : RegularAt m)
   unfolding callOf sends servedBy Send.answerOf Send.linksAfter
   send-on =
       let reply = Send.replyOf plan (a .links) (a .spans) link (length (m .out)) in
+      let more = oneMore (recordAt (a .links) link) in
+      let rewritten = sent-rewritten (a .links) link more in
       let here = eq-eqb link link refl in
       both-by-test
       (λ (answer : Answer) (links : List ℕ).
@@ -129,14 +134,14 @@ module _ (plan : Plan) (message : List ℕ) (m : Memory) (regular : RegularAt m)
       (eqb reply 0)
       _
       (plain reply)
-      (withRecord (a .links) link (sentOne (recordAt (a .links) link)))
+      (withSent (a .links) link more)
       (a .links)
       (λ done up.
       simp here
       (sent-serving plan a (m .octets) regular link h (a .spans) (length (m .out)) (eqb-true reply 0 done) s
-      (before (λ out. up (state-stays (sentOne (recordAt (a .links) link)) refl out)))
+      (before (λ out. up (state-stays rewritten refl out)))
       _
-      refl))
+      rewritten))
       (λ refuses up. simp (here, refuses) (before up))
 
   -- messages are acknowledged on it
@@ -150,17 +155,18 @@ module _ (plan : Plan) (message : List ℕ) (m : Memory) (regular : RegularAt m)
         let reply = Acknowledge.replyOf plan (a .links) link b in
         let here = eq-eqb link link refl in
         let queues = Acknowledge.queuesAfter plan (a .links) (both (a .spans) (a .rings)) link b in
-        let new = acknowledgedTo (recordAt (a .links) link) b in
+        let left = leftSent (recordAt (a .links) link) b in
+        let rewritten = acknowledged-rewritten (a .links) link b left in
         by-done
         (λ (done : Bool) (links : List ℕ).
         InService (areas links (a .marks) (queues .spans) (queues .rings) (a .rows) (a .arrivals) (a .reports)) link
         (cond (eqb link link && done) acknowledged-service s))
         reply
-        (withRecord (a .links) link new)
+        (withAcknowledged (withSent (a .links) link left) link b)
         (a .links)
         (λ done up.
         simp here
-        (acknowledged-serving plan a (m .octets) regular link h b done s (before (λ out. up (state-stays new refl out))) _ refl))
+        (acknowledged-serving plan a (m .octets) regular link h b done s (before (λ out. up (state-stays rewritten refl out))) _ rewritten))
         (λ up.
         let was = before up in
         simp here (record { sent-is = was .sent-is; acknowledged-is = was .acknowledged-is }))

@@ -1,6 +1,5 @@
 // The expiry of each timer, as C calls it.
 use changeover::timer::expire;
-use plan::data::Plan;
 use replies::Answer;
 use rerouting::timer::expire_t6;
 use rerouting::timer::expire_t8;
@@ -8,6 +7,7 @@ use rerouting::timer::expire_t10;
 use waiting::expire_wait;
 ghost use mathlib.Core.Path.{_≡_};
 ghost use mathlib.Core.List.{[]};
+ghost use Rattle.planwords.specs.Words.{planOf};
 ghost use Rattle.replies.specs.Areas.{areas, Leaves};
 ghost use Rattle.changeover.specs.Timer as Changeover;
 ghost use Rattle.waiting.specs.Wait as Wait;
@@ -16,7 +16,7 @@ ghost use Rattle.rerouting.specs.Timer as Rerouting;
 // T1 or T2 of a link expires.
 #[no_mangle]
 pub extern "C" fn transfer_point_expire_lent(
-    plan: &Plan,
+    plan: &[u16; 1024],
     links: &mut [u32; 256],
     marks: &[u32; 512],
     spans: &mut [u16; 70],
@@ -26,39 +26,29 @@ pub extern "C" fn transfer_point_expire_lent(
     timer: u8,
     reports: &mut [u64],
 ) -> Answer
-    ensures { λ r. ⌜ Leaves (Changeover.expired (now (plan .entry)) (areas (now (links .entry)) (now (marks .entry)) (now (spans .entry)) (now (rings .entry)) (now (rows .entry)) [] (now (reports .entry))) link timer) r (areas (now (links .exit)) (now (marks .entry)) (now (spans .exit)) (now (rings .exit)) (now (rows .entry)) [] (now (reports .exit))) ⌝ }
+    ensures { λ r. ⌜ Leaves (Changeover.expired (planOf plan) (areas (now (links .entry)) (now (marks .entry)) (now (spans .entry)) (now (rings .entry)) (now (rows .entry)) [] (now (reports .entry))) link timer) r (areas (now (links .exit)) (now (marks .entry)) (now (spans .exit)) (now (rings .exit)) (now (rows .entry)) [] (now (reports .exit))) ⌝ }
 {
-    expire(
-        *plan,
-        links,
-        marks,
-        spans,
-        rings,
-        rows,
-        link,
-        timer,
-        reports,
-    )
+    expire(plan, links, marks, spans, rings, rows, link, timer, reports)
 }
 
 // T3 or T4 of a link expires.
 #[no_mangle]
 pub extern "C" fn transfer_point_expire_wait_lent(
-    plan: &Plan,
+    plan: &[u16; 1024],
     links: &mut [u32; 256],
     link: u8,
     timer: u8,
 ) -> u8
-    ensures { λ r. ⌜ r ≡ Wait.replyOf (now (plan .entry)) (now (links .entry)) link timer ⌝ }
-    ensures { λ r. ⌜ now (links .exit) ≡ Wait.expired (now (plan .entry)) (now (links .entry)) link timer ⌝ }
+    ensures { λ r. ⌜ r ≡ Wait.replyOf (planOf plan) (now (links .entry)) link timer ⌝ }
+    ensures { λ r. ⌜ now (links .exit) ≡ Wait.expired (planOf plan) (now (links .entry)) link timer ⌝ }
 {
-    expire_wait(*plan, links, link, timer)
+    expire_wait(plan, links, link, timer)
 }
 
 // T6 of a destination expires.
 #[no_mangle]
 pub extern "C" fn transfer_point_expire_t6_lent(
-    plan: &Plan,
+    plan: &[u16; 1024],
     links: &[u32; 256],
     marks: &mut [u32; 512],
     spans: &mut [u16; 70],
@@ -67,24 +57,28 @@ pub extern "C" fn transfer_point_expire_t6_lent(
     x: u16,
     reports: &mut [u64],
 ) -> Answer
-    ensures { λ r. ⌜ Leaves (Rerouting.expiredT6 (now (plan .entry)) (areas (now (links .entry)) (now (marks .entry)) (now (spans .entry)) (now (rings .entry)) (now (rows .entry)) [] (now (reports .entry))) x) r (areas (now (links .entry)) (now (marks .exit)) (now (spans .exit)) (now (rings .exit)) (now (rows .entry)) [] (now (reports .exit))) ⌝ }
+    ensures { λ r. ⌜ Leaves (Rerouting.expiredT6 (planOf plan) (areas (now (links .entry)) (now (marks .entry)) (now (spans .entry)) (now (rings .entry)) (now (rows .entry)) [] (now (reports .entry))) x) r (areas (now (links .entry)) (now (marks .exit)) (now (spans .exit)) (now (rings .exit)) (now (rows .entry)) [] (now (reports .exit))) ⌝ }
 {
-    expire_t6(*plan, links, marks, spans, rings, rows, x, reports)
+    expire_t6(plan, links, marks, spans, rings, rows, x, reports)
 }
 
 // T8 of a destination expires.
 #[no_mangle]
-pub extern "C" fn transfer_point_expire_t8_lent(plan: &Plan, marks: &mut [u32; 512], x: u16) -> u8
-    ensures { λ r. ⌜ r ≡ Rerouting.replyOf (now (plan .entry)) (now (marks .entry)) x 5 ⌝ }
-    ensures { λ r. ⌜ now (marks .exit) ≡ Rerouting.expiredT8 (now (plan .entry)) (now (marks .entry)) x ⌝ }
+pub extern "C" fn transfer_point_expire_t8_lent(
+    plan: &[u16; 1024],
+    marks: &mut [u32; 512],
+    x: u16,
+) -> u8
+    ensures { λ r. ⌜ r ≡ Rerouting.replyOf (planOf plan) (now (marks .entry)) x 5 ⌝ }
+    ensures { λ r. ⌜ now (marks .exit) ≡ Rerouting.expiredT8 (planOf plan) (now (marks .entry)) x ⌝ }
 {
-    expire_t8(*plan, marks, x)
+    expire_t8(plan, marks, x)
 }
 
 // T10 of a route expires.
 #[no_mangle]
 pub extern "C" fn transfer_point_expire_t10_lent(
-    plan: &Plan,
+    plan: &[u16; 1024],
     links: &[u32; 256],
     marks: &[u32; 512],
     spans: &mut [u16; 70],
@@ -94,7 +88,7 @@ pub extern "C" fn transfer_point_expire_t10_lent(
     x: u16,
     set: u8,
 ) -> Answer
-    ensures { λ r. ⌜ Leaves (Rerouting.expiredT10 (now (plan .entry)) (areas (now (links .entry)) (now (marks .entry)) (now (spans .entry)) (now (rings .entry)) (now (rows .entry)) (now (arrivals .entry)) []) x set) r (areas (now (links .entry)) (now (marks .entry)) (now (spans .exit)) (now (rings .exit)) (now (rows .exit)) (now (arrivals .exit)) []) ⌝ }
+    ensures { λ r. ⌜ Leaves (Rerouting.expiredT10 (planOf plan) (areas (now (links .entry)) (now (marks .entry)) (now (spans .entry)) (now (rings .entry)) (now (rows .entry)) (now (arrivals .entry)) []) x set) r (areas (now (links .entry)) (now (marks .entry)) (now (spans .exit)) (now (rings .exit)) (now (rows .exit)) (now (arrivals .exit)) []) ⌝ }
 {
-    expire_t10(*plan, links, marks, spans, rings, rows, arrivals, x, set)
+    expire_t10(plan, links, marks, spans, rings, rows, arrivals, x, set)
 }

@@ -1,8 +1,8 @@
 // A link comes into service or fails, as C calls it.
 use changeback::service::into_service;
 use changeover::fail::fail;
-use plan::data::Plan;
 use replies::Answer;
+ghost use Rattle.planwords.specs.Words.{planOf};
 ghost use Rattle.replies.specs.Areas.{areas, Leaves};
 ghost use Rattle.changeback.specs.Service as Service;
 ghost use Rattle.changeover.specs.Fail as Fail;
@@ -10,7 +10,7 @@ ghost use Rattle.changeover.specs.Fail as Fail;
 // A link comes into service.
 #[no_mangle]
 pub extern "C" fn transfer_point_into_service_lent(
-    plan: &Plan,
+    plan: &[u16; 1024],
     links: &mut [u32; 256],
     marks: &[u32; 512],
     spans: &mut [u16; 70],
@@ -20,10 +20,10 @@ pub extern "C" fn transfer_point_into_service_lent(
     link: u8,
     reports: &mut [u64],
 ) -> Answer
-    ensures { λ r. ⌜ Leaves (Service.intoService (now (plan .entry)) (areas (now (links .entry)) (now (marks .entry)) (now (spans .entry)) (now (rings .entry)) (now (rows .entry)) (now (arrivals .entry)) (now (reports .entry))) link) r (areas (now (links .exit)) (now (marks .entry)) (now (spans .exit)) (now (rings .exit)) (now (rows .exit)) (now (arrivals .exit)) (now (reports .exit))) ⌝ }
+    ensures { λ r. ⌜ Leaves (Service.intoService (planOf plan) (areas (now (links .entry)) (now (marks .entry)) (now (spans .entry)) (now (rings .entry)) (now (rows .entry)) (now (arrivals .entry)) (now (reports .entry))) link) r (areas (now (links .exit)) (now (marks .entry)) (now (spans .exit)) (now (rings .exit)) (now (rows .exit)) (now (arrivals .exit)) (now (reports .exit))) ⌝ }
 {
     into_service(
-        *plan,
+        plan,
         links,
         marks,
         spans,
@@ -38,7 +38,7 @@ pub extern "C" fn transfer_point_into_service_lent(
 // A link fails.
 #[no_mangle]
 pub extern "C" fn transfer_point_fail_lent(
-    plan: &Plan,
+    plan: &[u16; 1024],
     links: &mut [u32; 256],
     marks: &[u32; 512],
     spans: &mut [u16; 70],
@@ -48,10 +48,10 @@ pub extern "C" fn transfer_point_fail_lent(
     link: u8,
     reports: &mut [u64],
 ) -> Answer
-    ensures { λ r. ⌜ Leaves (Fail.failed (now (plan .entry)) (areas (now (links .entry)) (now (marks .entry)) (now (spans .entry)) (now (rings .entry)) (now (rows .entry)) (now (arrivals .entry)) (now (reports .entry))) link) r (areas (now (links .exit)) (now (marks .entry)) (now (spans .exit)) (now (rings .exit)) (now (rows .exit)) (now (arrivals .exit)) (now (reports .exit))) ⌝ }
+    ensures { λ r. ⌜ Leaves (Fail.failed (planOf plan) (areas (now (links .entry)) (now (marks .entry)) (now (spans .entry)) (now (rings .entry)) (now (rows .entry)) (now (arrivals .entry)) (now (reports .entry))) link) r (areas (now (links .exit)) (now (marks .entry)) (now (spans .exit)) (now (rings .exit)) (now (rows .exit)) (now (arrivals .exit)) (now (reports .exit))) ⌝ }
 {
     fail(
-        *plan,
+        plan,
         links,
         marks,
         spans,

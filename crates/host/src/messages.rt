@@ -1,6 +1,5 @@
 // Messages sent, acknowledged, received and handed over, as C calls it.
 use passing::host::send_host;
-use plan::data::Plan;
 use receiving::receive;
 use replies::Answer;
 use sending::acknowledge::acknowledge;
@@ -8,6 +7,7 @@ use sending::send::send;
 ghost use mathlib.Core.Path.{_≡_};
 ghost use mathlib.Core.List.{[]};
 ghost use lib.ListN.{length};
+ghost use Rattle.planwords.specs.Words.{planOf};
 ghost use Rattle.sending.specs.Send as Send;
 ghost use Rattle.queueing.specs.Head.{both};
 ghost use Rattle.sending.specs.Acknowledge as Acknowledge;
@@ -18,7 +18,7 @@ ghost use Rattle.passing.specs.Host as Host;
 // Level 2 asks for a link's next message.
 #[no_mangle]
 pub extern "C" fn transfer_point_send_lent(
-    plan: &Plan,
+    plan: &[u16; 1024],
     links: &mut [u32; 256],
     spans: &[u16; 70],
     rings: &[u8; 8960],
@@ -27,35 +27,35 @@ pub extern "C" fn transfer_point_send_lent(
     link: u8,
     out: &mut [u8],
 ) -> Answer
-    ensures { λ r. ⌜ r ≡ Send.answerOf (now (plan .entry)) (now (links .entry)) (now (spans .entry)) (now (rings .entry)) (now (rows .entry)) link (now (out .entry)) ⌝ }
-    ensures { λ r. ⌜ now (links .exit) ≡ Send.linksAfter (now (plan .entry)) (now (links .entry)) (now (spans .entry)) link (length (now (out .entry))) ⌝ }
-    ensures { λ r. ⌜ now (out .exit) ≡ Send.outAfter (now (plan .entry)) (now (links .entry)) (now (spans .entry)) (now (rings .entry)) (now (rows .entry)) (now (octets .entry)) link (now (out .entry)) ⌝ }
+    ensures { λ r. ⌜ r ≡ Send.answerOf (planOf plan) (now (links .entry)) (now (spans .entry)) (now (rings .entry)) (now (rows .entry)) link (now (out .entry)) ⌝ }
+    ensures { λ r. ⌜ now (links .exit) ≡ Send.linksAfter (planOf plan) (now (links .entry)) (now (spans .entry)) link (length (now (out .entry))) ⌝ }
+    ensures { λ r. ⌜ now (out .exit) ≡ Send.outAfter (planOf plan) (now (links .entry)) (now (spans .entry)) (now (rings .entry)) (now (rows .entry)) (now (octets .entry)) link (now (out .entry)) ⌝ }
 {
-    send(*plan, links, spans, rings, rows, octets, link, out)
+    send(plan, links, spans, rings, rows, octets, link, out)
 }
 
 // Level 2 acknowledges up to b.
 #[no_mangle]
 pub extern "C" fn transfer_point_acknowledge_lent(
-    plan: &Plan,
+    plan: &[u16; 1024],
     links: &mut [u32; 256],
     spans: &mut [u16; 70],
     rings: &mut [u8; 8960],
     link: u8,
     b: u8,
 ) -> u8
-    ensures { λ r. ⌜ r ≡ Acknowledge.replyOf (now (plan .entry)) (now (links .entry)) link b ⌝ }
-    ensures { λ r. ⌜ now (links .exit) ≡ Acknowledge.linksAfter (now (plan .entry)) (now (links .entry)) link b ⌝ }
-    ensures { λ r. ⌜ now (spans .exit) ≡ Acknowledge.queuesAfter (now (plan .entry)) (now (links .entry)) (both (now (spans .entry)) (now (rings .entry))) link b .spans ⌝ }
-    ensures { λ r. ⌜ now (rings .exit) ≡ Acknowledge.queuesAfter (now (plan .entry)) (now (links .entry)) (both (now (spans .entry)) (now (rings .entry))) link b .rings ⌝ }
+    ensures { λ r. ⌜ r ≡ Acknowledge.replyOf (planOf plan) (now (links .entry)) link b ⌝ }
+    ensures { λ r. ⌜ now (links .exit) ≡ Acknowledge.linksAfter (planOf plan) (now (links .entry)) link b ⌝ }
+    ensures { λ r. ⌜ now (spans .exit) ≡ Acknowledge.queuesAfter (planOf plan) (now (links .entry)) (both (now (spans .entry)) (now (rings .entry))) link b .spans ⌝ }
+    ensures { λ r. ⌜ now (rings .exit) ≡ Acknowledge.queuesAfter (planOf plan) (now (links .entry)) (both (now (spans .entry)) (now (rings .entry))) link b .rings ⌝ }
 {
-    acknowledge(*plan, links, spans, rings, link, b)
+    acknowledge(plan, links, spans, rings, link, b)
 }
 
 // A message came in on a link.
 #[no_mangle]
 pub extern "C" fn transfer_point_receive_lent(
-    plan: &Plan,
+    plan: &[u16; 1024],
     links: &mut [u32; 256],
     marks: &mut [u32; 512],
     spans: &mut [u16; 70],
@@ -68,11 +68,11 @@ pub extern "C" fn transfer_point_receive_lent(
     message: &[u8],
     reports: &mut [u64],
 ) -> Answer
-    ensures { λ r. ⌜ Leaves (Receive.received (now (plan .entry)) link fsn (now (message .entry)) (areas (now (links .entry)) (now (marks .entry)) (now (spans .entry)) (now (rings .entry)) (now (rows .entry)) (now (arrivals .entry)) (now (reports .entry)))) r (areas (now (links .exit)) (now (marks .exit)) (now (spans .exit)) (now (rings .exit)) (now (rows .exit)) (now (arrivals .exit)) (now (reports .exit))) ⌝ }
-    ensures { λ r. ⌜ now (octets .exit) ≡ Receive.octetsReceived (now (plan .entry)) link fsn (now (message .entry)) (areas (now (links .entry)) (now (marks .entry)) (now (spans .entry)) (now (rings .entry)) (now (rows .entry)) (now (arrivals .entry)) (now (reports .entry))) (now (octets .entry)) ⌝ }
+    ensures { λ r. ⌜ Leaves (Receive.received (planOf plan) link fsn (now (message .entry)) (areas (now (links .entry)) (now (marks .entry)) (now (spans .entry)) (now (rings .entry)) (now (rows .entry)) (now (arrivals .entry)) (now (reports .entry)))) r (areas (now (links .exit)) (now (marks .exit)) (now (spans .exit)) (now (rings .exit)) (now (rows .exit)) (now (arrivals .exit)) (now (reports .exit))) ⌝ }
+    ensures { λ r. ⌜ now (octets .exit) ≡ Receive.octetsReceived (planOf plan) link fsn (now (message .entry)) (areas (now (links .entry)) (now (marks .entry)) (now (spans .entry)) (now (rings .entry)) (now (rows .entry)) (now (arrivals .entry)) (now (reports .entry))) (now (octets .entry)) ⌝ }
 {
     receive(
-        *plan,
+        plan,
         links,
         marks,
         spans,
@@ -90,7 +90,7 @@ pub extern "C" fn transfer_point_receive_lent(
 // The host hands a message of its own over.
 #[no_mangle]
 pub extern "C" fn transfer_point_send_host_lent(
-    plan: &Plan,
+    plan: &[u16; 1024],
     links: &[u32; 256],
     marks: &[u32; 512],
     spans: &mut [u16; 70],
@@ -100,11 +100,11 @@ pub extern "C" fn transfer_point_send_host_lent(
     arrivals: &mut [u64; 1],
     message: &[u8],
 ) -> Answer
-    ensures { λ r. ⌜ Leaves (Host.sent (now (plan .entry)) (now (message .entry)) (areas (now (links .entry)) (now (marks .entry)) (now (spans .entry)) (now (rings .entry)) (now (rows .entry)) (now (arrivals .entry)) [])) r (areas (now (links .entry)) (now (marks .entry)) (now (spans .exit)) (now (rings .exit)) (now (rows .exit)) (now (arrivals .exit)) []) ⌝ }
-    ensures { λ r. ⌜ now (octets .exit) ≡ Host.octetsSent (now (plan .entry)) (now (message .entry)) (areas (now (links .entry)) (now (marks .entry)) (now (spans .entry)) (now (rings .entry)) (now (rows .entry)) (now (arrivals .entry)) []) (now (octets .entry)) ⌝ }
+    ensures { λ r. ⌜ Leaves (Host.sent (planOf plan) (now (message .entry)) (areas (now (links .entry)) (now (marks .entry)) (now (spans .entry)) (now (rings .entry)) (now (rows .entry)) (now (arrivals .entry)) [])) r (areas (now (links .entry)) (now (marks .entry)) (now (spans .exit)) (now (rings .exit)) (now (rows .exit)) (now (arrivals .exit)) []) ⌝ }
+    ensures { λ r. ⌜ now (octets .exit) ≡ Host.octetsSent (planOf plan) (now (message .entry)) (areas (now (links .entry)) (now (marks .entry)) (now (spans .entry)) (now (rings .entry)) (now (rows .entry)) (now (arrivals .entry)) []) (now (octets .entry)) ⌝ }
 {
     send_host(
-        *plan,
+        plan,
         links,
         marks,
         spans,

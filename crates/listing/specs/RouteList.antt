@@ -4,6 +4,7 @@ use mathlib.Core.List.{List, [], _∷_, _++_}
 use Prim.Native.Nat.{ℕ, zero, suc, _+_, min}
 use lib.Dec.{ltb}
 use lib.ListN.{length, take, drop}
+use Rattle.replies.specs.declared.Answer.{Answer}
 use Rattle.numerals.specs.Decimal.{decimalOf}
 use Rattle.text.specs.Part.{tab, lf}
 use Rattle.plan.specs.declared.data.Plan.{Plan}
@@ -75,3 +76,7 @@ listReply out plan = cond (ltb (length out) 4096) 1 (cond (plan .given) 0 2)
 -- what is listed: nothing where it is refused
 abbrev pub listed : List ℕ → List ℕ → List ℕ → Plan → List ℕ
 listed out links marks plan = cond (ltb 0 (listReply out plan)) [] (listOf links marks plan)
+
+-- what is answered: how many octets it has
+abbrev pub listAnswer : ℕ → ℕ → Answer
+listAnswer reply octets = record { reply = reply; fsn = 0; octets = octets; reports = 0; delivers = false }

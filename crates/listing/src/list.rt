@@ -1,9 +1,14 @@
 // The route list, written into a lent area of at least 4,096 octets.
 use numerals::decimal::put_decimal;
-use plan::data::Plan;
+use planwords::read::count;
+use planwords::read::destination_code;
+use planwords::read::given;
+use replies::Answer;
+use replies::plain;
 use routing::choose::choose;
 use routing::state::Need;
 use text::put::put;
+ghost use Rattle.planwords.specs.Words.{planOf};
 ghost use mathlib.Core.Path.{_≡_};
 ghost use mathlib.Core.List.{[], _∷_, _++_};
 ghost use Prim.Native.Nat.{_+_, _≤_, _<_};
@@ -11,26 +16,31 @@ ghost use lib.ListN.{length, drop};
 ghost use Rattle.text.specs.Part.{tab, lf};
 ghost use Rattle.listing.specs.RouteList as RouteList;
 
-// The reply, and how many octets were written: 0 but for reply 0.
-#[repr(C)]
-pub struct Listed {
-    pub reply: u8,
-    pub count: usize,
-}
-
-pub fn route_list(plan: Plan, links: &[u32; 256], marks: &[u32; 512], out: &mut [u8]) -> Listed
-    ensures { λ r. ⌜ r ≡ record { reply = RouteList.listReply (now (out .entry)) plan; count = length (RouteList.listed (now (out .entry)) (now (links .entry)) (now (marks .entry)) plan) } ⌝ }
-    ensures { λ r. ⌜ now (out .exit) ≡ RouteList.listed (now (out .entry)) (now (links .entry)) (now (marks .entry)) plan ++ drop (length (RouteList.listed (now (out .entry)) (now (links .entry)) (now (marks .entry)) plan)) (now (out .entry)) ⌝ }
+// The answer counts the octets that are written: none but for reply 0.
+pub fn route_list(
+    plan: &[u16; 1024],
+    links: &[u32; 256],
+    marks: &[u32; 512],
+    out: &mut [u8],
+) -> Answer
+    ensures { λ r. ⌜ r ≡ RouteList.listAnswer (RouteList.listReply (now (out .entry)) (planOf plan)) (length (RouteList.listed (now (out .entry)) (now (links .entry)) (now (marks .entry)) (planOf plan))) ⌝ }
+    ensures { λ r. ⌜ now (out .exit) ≡ RouteList.laid (now (out .entry)) 0 (RouteList.listed (now (out .entry)) (now (links .entry)) (now (marks .entry)) (planOf plan)) ⌝ }
 {
     if out.len() < 4096 {
-        return Listed { reply: 1, count: 0 };
+        return plain(1);
     }
-    if !plan.given {
-        return Listed { reply: 2, count: 0 };
+    if !given(plan) {
+        return plain(2);
     }
     let start = put_header(out);
     let count = put_lines(plan, links, marks, out, start);
-    Listed { reply: 0, count }
+    Answer {
+        reply: 0,
+        fsn: 0,
+        octets: count,
+        reports: 0,
+        delivers: false,
+    }
 }
 
 // `dest` and the SLS 0 to 15.
@@ -47,16 +57,19 @@ fn put_header(out: &mut [u8]) -> usize
 }
 
 // A line a destination; the place past them.
-fn put_lines(plan: Plan, links: &[u32; 256], marks: &[u32; 512], out: &mut [u8], at: usize) -> usize
+fn put_lines(
+    plan: &[u16; 1024],
+    links: &[u32; 256],
+    marks: &[u32; 512],
+    out: &mut [u8],
+    at: usize,
+) -> usize
     requires { ⌜ at + 3456 ≤ length (now out) ⌝ }
-    ensures { λ r. ⌜ r ≡ at + length (RouteList.allLines (now (links .entry)) (now (marks .entry)) plan) ⌝ }
-    ensures { λ r. ⌜ now (out .exit) ≡ RouteList.laid (now (out .entry)) at (RouteList.allLines (now (links .entry)) (now (marks .entry)) plan) ⌝ }
+    ensures { λ r. ⌜ r ≡ at + length (RouteList.allLines (now (links .entry)) (now (marks .entry)) (planOf plan)) ⌝ }
+    ensures { λ r. ⌜ now (out .exit) ≡ RouteList.laid (now (out .entry)) at (RouteList.allLines (now (links .entry)) (now (marks .entry)) (planOf plan)) ⌝ }
 {
-    let count = if plan.count < 64 {
-        plan.count as usize
-    } else {
-        64
-    };
+    let many = count(plan);
+    let count = if many < 64 { many as usize } else { 64 };
     let mut end = at;
     let mut destination = 0;
     while destination < count {
@@ -68,7 +81,7 @@ fn put_lines(plan: Plan, links: &[u32; 256], marks: &[u32; 512], out: &mut [u8],
 
 // A destination's code and the link of each SLS.
 fn put_line(
-    plan: Plan,
+    plan: &[u16; 1024],
     links: &[u32; 256],
     marks: &[u32; 512],
     destination: usize,
@@ -78,17 +91,17 @@ fn put_line(
     requires { ⌜ destination < 64 ⌝ }
     requires { ⌜ at + 54 ≤ length (now out) ⌝ }
     ensures { λ r. ⌜ r ≤ at + 54 ⌝ }
-    ensures { λ r. ⌜ r ≡ at + length (RouteList.lineOf (now (links .entry)) (now (marks .entry)) plan destination) ⌝ }
-    ensures { λ r. ⌜ now (out .exit) ≡ RouteList.laid (now (out .entry)) at (RouteList.lineOf (now (links .entry)) (now (marks .entry)) plan destination) ⌝ }
+    ensures { λ r. ⌜ r ≡ at + length (RouteList.lineOf (now (links .entry)) (now (marks .entry)) (planOf plan) destination) ⌝ }
+    ensures { λ r. ⌜ now (out .exit) ≡ RouteList.laid (now (out .entry)) at (RouteList.lineOf (now (links .entry)) (now (marks .entry)) (planOf plan) destination) ⌝ }
 {
-    let there = plan.destinations[destination];
-    let end = put_decimal(out, at, there.code as u64);
+    let code = destination_code(plan, destination);
+    let end = put_decimal(out, at, code as u64);
     put_words(plan, links, marks, destination, out, end)
 }
 
 // The link of each SLS, and the end of the line.
 fn put_words(
-    plan: Plan,
+    plan: &[u16; 1024],
     links: &[u32; 256],
     marks: &[u32; 512],
     destination: usize,
@@ -96,8 +109,8 @@ fn put_words(
     at: usize,
 ) -> usize
     requires { ⌜ at + 49 ≤ length (now out) ⌝ }
-    ensures { λ r. ⌜ r ≡ at + length (RouteList.rowOf (now (links .entry)) (now (marks .entry)) plan destination) ⌝ }
-    ensures { λ r. ⌜ now (out .exit) ≡ RouteList.laid (now (out .entry)) at (RouteList.rowOf (now (links .entry)) (now (marks .entry)) plan destination) ⌝ }
+    ensures { λ r. ⌜ r ≡ at + length (RouteList.rowOf (now (links .entry)) (now (marks .entry)) (planOf plan) destination) ⌝ }
+    ensures { λ r. ⌜ now (out .exit) ≡ RouteList.laid (now (out .entry)) at (RouteList.rowOf (now (links .entry)) (now (marks .entry)) (planOf plan) destination) ⌝ }
 {
     let need = Need {
         open: false,

@@ -1,19 +1,26 @@
 // What messages and calls name: a link by its adjacent point and SLC, a route by its destination and set, a link by its number.
-use plan::data::LinkSet;
-use plan::data::Plan;
 use plan::data::Route;
+use planwords::read::destination_routes;
+use planwords::read::given;
+use planwords::read::link_given;
+use planwords::read::link_set;
+use planwords::read::link_slc;
+use planwords::read::set_adjacent;
+use planwords::read::set_count;
+use planwords::read::set_given;
+use planwords::read::set_link;
 ghost use mathlib.Core.Path.{_≡_};
+ghost use Rattle.plan.specs.Data.{setAt};
+ghost use Rattle.planwords.specs.Words.{planOf};
 ghost use Rattle.lookup.specs.Lookup as Lookup;
 
 // The set to an adjacent point, 8 where there is none.
-pub fn set_to(plan: Plan, point: u16) -> u8
-    ensures { λ r. ⌜ r ≡ Lookup.setTo plan point ⌝ }
+pub fn set_to(plan: &[u16; 1024], point: u16) -> u8
+    ensures { λ r. ⌜ r ≡ Lookup.setTo (planOf plan) point ⌝ }
 {
-    let sets = plan.sets;
     let mut set = 0u8;
     while set < 8 {
-        let those = sets[set as usize];
-        if those.given && those.adjacent == point {
+        if set_given(plan, set) && set_adjacent(plan, set) == point {
             return set;
         }
         set += 1;
@@ -22,18 +29,16 @@ pub fn set_to(plan: Plan, point: u16) -> u8
 }
 
 // The link of a set with an SLC, 32 where there is none.
-fn link_with(plan: Plan, those: LinkSet, slc: u8) -> u8
-    ensures { λ r. ⌜ r ≡ Lookup.linkWith plan slc (Lookup.allOf those) ⌝ }
+fn link_with(plan: &[u16; 1024], set: u8, slc: u8) -> u8
+    ensures { λ r. ⌜ r ≡ Lookup.linkWith (planOf plan) slc (Lookup.allOf (setAt (planOf plan) set)) ⌝ }
 {
-    let all = plan.links;
-    let links = those.links;
-    let m = if those.count < 8 { those.count } else { 8 };
+    let count = set_count(plan, set);
+    let m = if count < 8 { count } else { 8 };
     let mut i = 0u8;
     while i < m {
-        let link = links[i as usize];
+        let link = set_link(plan, set, i);
         if link < 32 {
-            let there = all[link as usize];
-            if there.slc == slc {
+            if link_slc(plan, link) == slc {
                 return link;
             }
         }
@@ -43,28 +48,24 @@ fn link_with(plan: Plan, those: LinkSet, slc: u8) -> u8
 }
 
 // The link that a message names by its OPC and SLC, 32 where there is none.
-pub fn link_named(plan: Plan, point: u16, slc: u8) -> u8
-    ensures { λ r. ⌜ r ≡ Lookup.linkNamed plan point slc ⌝ }
+pub fn link_named(plan: &[u16; 1024], point: u16, slc: u8) -> u8
+    ensures { λ r. ⌜ r ≡ Lookup.linkNamed (planOf plan) point slc ⌝ }
 {
     let set = set_to(plan, point);
     if 8 <= set {
         return 32;
     }
-    let sets = plan.sets;
-    link_with(plan, sets[set as usize], slc)
+    link_with(plan, set, slc)
 }
 
 // The rank of the route to a destination by a set, 4 where there is none.
-pub fn rank_by(plan: Plan, destination: usize, set: u8) -> usize
-    ensures { λ r. ⌜ r ≡ Lookup.rankBy plan destination set ⌝ }
+pub fn rank_by(plan: &[u16; 1024], destination: usize, set: u8) -> usize
+    ensures { λ r. ⌜ r ≡ Lookup.rankBy (planOf plan) destination set ⌝ }
 {
     if 64 <= destination {
         return 4;
     }
-    let destinations = plan.destinations;
-    let there = destinations[destination];
-    let routes = there.routes;
-    rank_among(routes, set)
+    rank_among(destination_routes(plan, destination), set)
 }
 
 // The rank of the one among a destination's routes that goes by a set, 4 where there is none.
@@ -83,68 +84,58 @@ fn rank_among(routes: [Route; 4], set: u8) -> usize
 }
 
 // Whether a link is configured.
-pub fn is_link(plan: Plan, link: u8) -> bool
-    ensures { λ r. ⌜ r ≡ Lookup.isLink plan link ⌝ }
+pub fn is_link(plan: &[u16; 1024], link: u8) -> bool
+    ensures { λ r. ⌜ r ≡ Lookup.isLink (planOf plan) link ⌝ }
 {
-    if !plan.given {
+    if !given(plan) {
         return false;
     }
     if 32 <= link {
         return false;
     }
-    let links = plan.links;
-    let there = links[link as usize];
-    there.given
+    link_given(plan, link)
 }
 
 // Whether a set is configured.
-pub fn is_set(plan: Plan, set: u8) -> bool
-    ensures { λ r. ⌜ r ≡ Lookup.isSet plan set ⌝ }
+pub fn is_set(plan: &[u16; 1024], set: u8) -> bool
+    ensures { λ r. ⌜ r ≡ Lookup.isSet (planOf plan) set ⌝ }
 {
-    if !plan.given {
+    if !given(plan) {
         return false;
     }
     if 8 <= set {
         return false;
     }
-    let sets = plan.sets;
-    let there = sets[set as usize];
-    there.given
+    set_given(plan, set)
 }
 
 // The set of a link, 8 where there is none.
-pub fn set_of(plan: Plan, link: u8) -> u8
-    ensures { λ r. ⌜ r ≡ Lookup.setOf plan link ⌝ }
+pub fn set_of(plan: &[u16; 1024], link: u8) -> u8
+    ensures { λ r. ⌜ r ≡ Lookup.setOf (planOf plan) link ⌝ }
 {
     if 32 <= link {
         return 8;
     }
-    let links = plan.links;
-    let there = links[link as usize];
-    there.set
+    link_set(plan, link)
 }
 
 // The SLC of a link.
-pub fn slc_of(plan: Plan, link: u8) -> u8
-    ensures { λ r. ⌜ r ≡ Lookup.slcOf plan link ⌝ }
+pub fn slc_of(plan: &[u16; 1024], link: u8) -> u8
+    ensures { λ r. ⌜ r ≡ Lookup.slcOf (planOf plan) link ⌝ }
 {
     if 32 <= link {
         return 0;
     }
-    let links = plan.links;
-    let there = links[link as usize];
-    there.slc
+    link_slc(plan, link)
 }
 
 // The adjacent point of a link.
-pub fn adjacent_of(plan: Plan, link: u8) -> u16
-    ensures { λ r. ⌜ r ≡ Lookup.adjacentOf plan link ⌝ }
+pub fn adjacent_of(plan: &[u16; 1024], link: u8) -> u16
+    ensures { λ r. ⌜ r ≡ Lookup.adjacentOf (planOf plan) link ⌝ }
 {
     let set = set_of(plan, link);
     if 8 <= set {
         return 0;
     }
-    let sets = plan.sets;
-    let those = sets[set as usize];
-    those.adjacent
+    set_adjacent(plan, set)
 }

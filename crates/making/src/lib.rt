@@ -1,8 +1,8 @@
 // A management message of the node's own: made and queued where there is a path for it.
 use access::way::for_management;
 use access::way::way;
-use plan::data::Plan;
 use queueing::queue::queue_management;
+ghost use Rattle.planwords.specs.Words.{planOf};
 ghost use mathlib.Core.Path.{_≡_};
 ghost use Rattle.making.specs.Make as Make;
 
@@ -22,7 +22,7 @@ pub struct Made {
 }
 
 pub fn make(
-    plan: Plan,
+    plan: &[u16; 1024],
     links: &[u32; 256],
     marks: &[u32; 512],
     spans: &mut [u16; 70],
@@ -31,11 +31,11 @@ pub fn make(
     arrivals: &mut [u64; 1],
     draft: Draft,
 ) -> Made
-    ensures { λ r. ⌜ r ≡ Make.outcome plan (now (links .entry)) (now (marks .entry)) (now (spans .entry)) (now (arrivals .entry)) draft ⌝ }
-    ensures { λ r. ⌜ now (spans .exit) ≡ Make.made plan (now (links .entry)) (now (marks .entry)) draft (Make.held (now (spans .entry)) (now (rings .entry)) (now (rows .entry)) (now (arrivals .entry))) .queues .spans ⌝ }
-    ensures { λ r. ⌜ now (rings .exit) ≡ Make.made plan (now (links .entry)) (now (marks .entry)) draft (Make.held (now (spans .entry)) (now (rings .entry)) (now (rows .entry)) (now (arrivals .entry))) .queues .rings ⌝ }
-    ensures { λ r. ⌜ now (rows .exit) ≡ Make.made plan (now (links .entry)) (now (marks .entry)) draft (Make.held (now (spans .entry)) (now (rings .entry)) (now (rows .entry)) (now (arrivals .entry))) .rows ⌝ }
-    ensures { λ r. ⌜ now (arrivals .exit) ≡ Make.made plan (now (links .entry)) (now (marks .entry)) draft (Make.held (now (spans .entry)) (now (rings .entry)) (now (rows .entry)) (now (arrivals .entry))) .arrivals ⌝ }
+    ensures { λ r. ⌜ r ≡ Make.outcome (planOf plan) (now (links .entry)) (now (marks .entry)) (now (spans .entry)) (now (arrivals .entry)) draft ⌝ }
+    ensures { λ r. ⌜ now (spans .exit) ≡ Make.made (planOf plan) (now (links .entry)) (now (marks .entry)) draft (Make.held (now (spans .entry)) (now (rings .entry)) (now (rows .entry)) (now (arrivals .entry))) .queues .spans ⌝ }
+    ensures { λ r. ⌜ now (rings .exit) ≡ Make.made (planOf plan) (now (links .entry)) (now (marks .entry)) draft (Make.held (now (spans .entry)) (now (rings .entry)) (now (rows .entry)) (now (arrivals .entry))) .queues .rings ⌝ }
+    ensures { λ r. ⌜ now (rows .exit) ≡ Make.made (planOf plan) (now (links .entry)) (now (marks .entry)) draft (Make.held (now (spans .entry)) (now (rings .entry)) (now (rows .entry)) (now (arrivals .entry))) .rows ⌝ }
+    ensures { λ r. ⌜ now (arrivals .exit) ≡ Make.made (planOf plan) (now (links .entry)) (now (marks .entry)) draft (Make.held (now (spans .entry)) (now (rings .entry)) (now (rows .entry)) (now (arrivals .entry))) .arrivals ⌝ }
 {
     let need = for_management(draft.never);
     let path = way(plan, links, marks, need, draft.point, draft.slc);

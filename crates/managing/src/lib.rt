@@ -11,13 +11,13 @@ use orders::ask::ask_rst;
 use orders::carry::carry_out;
 use orders::step::Step;
 use orders::step::nothing;
-use plan::data::Plan;
 use replies::Answer;
 use replies::done;
 use replies::plain;
 use rerouting::mark::transfer;
 use waiting::answer_wait;
 use waiting::answers;
+ghost use Rattle.planwords.specs.Words.{planOf};
 ghost use mathlib.Core.Path.{_≡_};
 ghost use mathlib.Core.List.{[]};
 ghost use Rattle.replies.specs.Areas.{areas, Leaves};
@@ -25,7 +25,7 @@ ghost use Rattle.managing.specs.Managed as Managed;
 
 // A CBA.
 fn answer_by(
-    plan: Plan,
+    plan: &[u16; 1024],
     links: &mut [u32; 256],
     arriving: u8,
     fsn: u8,
@@ -33,7 +33,7 @@ fn answer_by(
     slc: u8,
     code: u8,
 ) -> Answer
-    ensures { λ r. ⌜ Leaves (Managed.answeredBy plan arriving fsn point slc code (areas (now (links .entry)) [] [] [] [] [] [])) r (areas (now (links .exit)) [] [] [] [] [] []) ⌝ }
+    ensures { λ r. ⌜ Leaves (Managed.answeredBy (planOf plan) arriving fsn point slc code (areas (now (links .entry)) [] [] [] [] [] [])) r (areas (now (links .exit)) [] [] [] [] [] []) ⌝ }
 {
     let counts = answers(plan, links, point, slc, code);
     take_message(links, arriving, fsn);
@@ -46,14 +46,14 @@ fn answer_by(
 
 // What a message asks that is answered or ends a changeover.
 fn ask(
-    plan: Plan,
+    plan: &[u16; 1024],
     links: &[u32; 256],
     marks: &[u32; 512],
     arriving: u8,
     fsn: u8,
     order: Order,
 ) -> Step
-    ensures { λ r. ⌜ r ≡ Managed.asked plan (now (links .entry)) (now (marks .entry)) arriving fsn (order .point) (order .slc) (order .message) ⌝ }
+    ensures { λ r. ⌜ r ≡ Managed.asked (planOf plan) (now (links .entry)) (now (marks .entry)) arriving fsn (order .point) (order .slc) (order .message) ⌝ }
 {
     let point = order.point;
     let slc = order.slc;
@@ -73,7 +73,7 @@ fn ask(
 
 // What a message does that came over a link with a number.
 pub fn manage(
-    plan: Plan,
+    plan: &[u16; 1024],
     links: &mut [u32; 256],
     marks: &mut [u32; 512],
     spans: &mut [u16; 70],
@@ -85,7 +85,7 @@ pub fn manage(
     order: Order,
     reports: &mut [u64],
 ) -> Answer
-    ensures { λ r. ⌜ Leaves (Managed.managed plan arriving fsn (order .point) (order .slc) (order .message) (areas (now (links .entry)) (now (marks .entry)) (now (spans .entry)) (now (rings .entry)) (now (rows .entry)) (now (arrivals .entry)) (now (reports .entry)))) r (areas (now (links .exit)) (now (marks .exit)) (now (spans .exit)) (now (rings .exit)) (now (rows .exit)) (now (arrivals .exit)) (now (reports .exit))) ⌝ }
+    ensures { λ r. ⌜ Leaves (Managed.managed (planOf plan) arriving fsn (order .point) (order .slc) (order .message) (areas (now (links .entry)) (now (marks .entry)) (now (spans .entry)) (now (rings .entry)) (now (rows .entry)) (now (arrivals .entry)) (now (reports .entry)))) r (areas (now (links .exit)) (now (marks .exit)) (now (spans .exit)) (now (rings .exit)) (now (rows .exit)) (now (arrivals .exit)) (now (reports .exit))) ⌝ }
 {
     let message = order.message;
     match message {

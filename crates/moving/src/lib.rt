@@ -2,19 +2,25 @@
 use access::way::for_management;
 use access::way::for_users;
 use access::way::way;
-use plan::data::Plan;
 use queueing::head::move_head;
 use queueing::leave::drop_head;
 use rings::ring::at;
 use rings::ring::count;
 use rows::slot::load_slot;
+ghost use Rattle.planwords.specs.Words.{planOf};
 ghost use mathlib.Core.Path.{_≡_};
 ghost use Rattle.queueing.specs.Leave.{state};
 ghost use Rattle.moving.specs.Move as Move;
 
 // The link that the message in a slot goes to, 32 where it has none.
-fn goes_to(plan: Plan, links: &[u32; 256], marks: &[u32; 512], rows: &[u64; 2048], slot: u8) -> u8
-    ensures { λ r. ⌜ r ≡ Move.goesTo plan (now (links .entry)) (now (marks .entry)) (now (rows .entry)) slot ⌝ }
+fn goes_to(
+    plan: &[u16; 1024],
+    links: &[u32; 256],
+    marks: &[u32; 512],
+    rows: &[u64; 2048],
+    slot: u8,
+) -> u8
+    ensures { λ r. ⌜ r ≡ Move.goesTo (planOf plan) (now (links .entry)) (now (marks .entry)) (now (rows .entry)) slot ⌝ }
 {
     let known = load_slot(rows, slot);
     let point = (known.point % 16384) as u16;
@@ -28,7 +34,7 @@ fn goes_to(plan: Plan, links: &[u32; 256], marks: &[u32; 512], rows: &[u64; 2048
 
 // The first message of a ring moves, or is dropped with reason 1; how many reports there are now.
 fn move_one(
-    plan: Plan,
+    plan: &[u16; 1024],
     links: &[u32; 256],
     marks: &[u32; 512],
     spans: &mut [u16; 70],
@@ -38,10 +44,10 @@ fn move_one(
     reports: &mut [u64],
     told: usize,
 ) -> usize
-    ensures { λ r. ⌜ r ≡ Move.movedOne plan (now (links .entry)) (now (marks .entry)) (now (rows .entry)) ring (state (now (spans .entry)) (now (rings .entry)) (now (reports .entry)) told) .log .count ⌝ }
-    ensures { λ r. ⌜ now (reports .exit) ≡ Move.movedOne plan (now (links .entry)) (now (marks .entry)) (now (rows .entry)) ring (state (now (spans .entry)) (now (rings .entry)) (now (reports .entry)) told) .log .area ⌝ }
-    ensures { λ r. ⌜ now (spans .exit) ≡ Move.movedOne plan (now (links .entry)) (now (marks .entry)) (now (rows .entry)) ring (state (now (spans .entry)) (now (rings .entry)) (now (reports .entry)) told) .queues .spans ⌝ }
-    ensures { λ r. ⌜ now (rings .exit) ≡ Move.movedOne plan (now (links .entry)) (now (marks .entry)) (now (rows .entry)) ring (state (now (spans .entry)) (now (rings .entry)) (now (reports .entry)) told) .queues .rings ⌝ }
+    ensures { λ r. ⌜ r ≡ Move.movedOne (planOf plan) (now (links .entry)) (now (marks .entry)) (now (rows .entry)) ring (state (now (spans .entry)) (now (rings .entry)) (now (reports .entry)) told) .log .count ⌝ }
+    ensures { λ r. ⌜ now (reports .exit) ≡ Move.movedOne (planOf plan) (now (links .entry)) (now (marks .entry)) (now (rows .entry)) ring (state (now (spans .entry)) (now (rings .entry)) (now (reports .entry)) told) .log .area ⌝ }
+    ensures { λ r. ⌜ now (spans .exit) ≡ Move.movedOne (planOf plan) (now (links .entry)) (now (marks .entry)) (now (rows .entry)) ring (state (now (spans .entry)) (now (rings .entry)) (now (reports .entry)) told) .queues .spans ⌝ }
+    ensures { λ r. ⌜ now (rings .exit) ≡ Move.movedOne (planOf plan) (now (links .entry)) (now (marks .entry)) (now (rows .entry)) ring (state (now (spans .entry)) (now (rings .entry)) (now (reports .entry)) told) .queues .rings ⌝ }
 {
     let head = at(spans, rings, ring, 0);
     if !head.found {
@@ -57,7 +63,7 @@ fn move_one(
 
 // All messages of a ring move; how many reports there are now.
 pub fn move_all(
-    plan: Plan,
+    plan: &[u16; 1024],
     links: &[u32; 256],
     marks: &[u32; 512],
     spans: &mut [u16; 70],
@@ -67,10 +73,10 @@ pub fn move_all(
     reports: &mut [u64],
     told: usize,
 ) -> usize
-    ensures { λ r. ⌜ r ≡ Move.movedAll plan (now (links .entry)) (now (marks .entry)) (now (rows .entry)) ring (state (now (spans .entry)) (now (rings .entry)) (now (reports .entry)) told) .log .count ⌝ }
-    ensures { λ r. ⌜ now (reports .exit) ≡ Move.movedAll plan (now (links .entry)) (now (marks .entry)) (now (rows .entry)) ring (state (now (spans .entry)) (now (rings .entry)) (now (reports .entry)) told) .log .area ⌝ }
-    ensures { λ r. ⌜ now (spans .exit) ≡ Move.movedAll plan (now (links .entry)) (now (marks .entry)) (now (rows .entry)) ring (state (now (spans .entry)) (now (rings .entry)) (now (reports .entry)) told) .queues .spans ⌝ }
-    ensures { λ r. ⌜ now (rings .exit) ≡ Move.movedAll plan (now (links .entry)) (now (marks .entry)) (now (rows .entry)) ring (state (now (spans .entry)) (now (rings .entry)) (now (reports .entry)) told) .queues .rings ⌝ }
+    ensures { λ r. ⌜ r ≡ Move.movedAll (planOf plan) (now (links .entry)) (now (marks .entry)) (now (rows .entry)) ring (state (now (spans .entry)) (now (rings .entry)) (now (reports .entry)) told) .log .count ⌝ }
+    ensures { λ r. ⌜ now (reports .exit) ≡ Move.movedAll (planOf plan) (now (links .entry)) (now (marks .entry)) (now (rows .entry)) ring (state (now (spans .entry)) (now (rings .entry)) (now (reports .entry)) told) .log .area ⌝ }
+    ensures { λ r. ⌜ now (spans .exit) ≡ Move.movedAll (planOf plan) (now (links .entry)) (now (marks .entry)) (now (rows .entry)) ring (state (now (spans .entry)) (now (rings .entry)) (now (reports .entry)) told) .queues .spans ⌝ }
+    ensures { λ r. ⌜ now (rings .exit) ≡ Move.movedAll (planOf plan) (now (links .entry)) (now (marks .entry)) (now (rows .entry)) ring (state (now (spans .entry)) (now (rings .entry)) (now (reports .entry)) told) .queues .rings ⌝ }
 {
     let mut left = count(spans, ring);
     let mut reported = told;
@@ -93,7 +99,7 @@ pub fn move_all(
 
 // The first message held apart moves if it is for the point, and else goes to the end of those held apart.
 fn release_one(
-    plan: Plan,
+    plan: &[u16; 1024],
     links: &[u32; 256],
     marks: &[u32; 512],
     spans: &mut [u16; 70],
@@ -103,10 +109,10 @@ fn release_one(
     reports: &mut [u64],
     told: usize,
 ) -> usize
-    ensures { λ r. ⌜ r ≡ Move.releasedOne plan (now (links .entry)) (now (marks .entry)) (now (rows .entry)) point (state (now (spans .entry)) (now (rings .entry)) (now (reports .entry)) told) .log .count ⌝ }
-    ensures { λ r. ⌜ now (reports .exit) ≡ Move.releasedOne plan (now (links .entry)) (now (marks .entry)) (now (rows .entry)) point (state (now (spans .entry)) (now (rings .entry)) (now (reports .entry)) told) .log .area ⌝ }
-    ensures { λ r. ⌜ now (spans .exit) ≡ Move.releasedOne plan (now (links .entry)) (now (marks .entry)) (now (rows .entry)) point (state (now (spans .entry)) (now (rings .entry)) (now (reports .entry)) told) .queues .spans ⌝ }
-    ensures { λ r. ⌜ now (rings .exit) ≡ Move.releasedOne plan (now (links .entry)) (now (marks .entry)) (now (rows .entry)) point (state (now (spans .entry)) (now (rings .entry)) (now (reports .entry)) told) .queues .rings ⌝ }
+    ensures { λ r. ⌜ r ≡ Move.releasedOne (planOf plan) (now (links .entry)) (now (marks .entry)) (now (rows .entry)) point (state (now (spans .entry)) (now (rings .entry)) (now (reports .entry)) told) .log .count ⌝ }
+    ensures { λ r. ⌜ now (reports .exit) ≡ Move.releasedOne (planOf plan) (now (links .entry)) (now (marks .entry)) (now (rows .entry)) point (state (now (spans .entry)) (now (rings .entry)) (now (reports .entry)) told) .log .area ⌝ }
+    ensures { λ r. ⌜ now (spans .exit) ≡ Move.releasedOne (planOf plan) (now (links .entry)) (now (marks .entry)) (now (rows .entry)) point (state (now (spans .entry)) (now (rings .entry)) (now (reports .entry)) told) .queues .spans ⌝ }
+    ensures { λ r. ⌜ now (rings .exit) ≡ Move.releasedOne (planOf plan) (now (links .entry)) (now (marks .entry)) (now (rows .entry)) point (state (now (spans .entry)) (now (rings .entry)) (now (reports .entry)) told) .queues .rings ⌝ }
 {
     let head = at(spans, rings, 32, 0);
     let known = load_slot(rows, head.slot);
@@ -119,7 +125,7 @@ fn release_one(
 
 // The messages held apart for a point move, and the others keep their order; how many reports there are now.
 pub fn release(
-    plan: Plan,
+    plan: &[u16; 1024],
     links: &[u32; 256],
     marks: &[u32; 512],
     spans: &mut [u16; 70],
@@ -129,10 +135,10 @@ pub fn release(
     reports: &mut [u64],
     told: usize,
 ) -> usize
-    ensures { λ r. ⌜ r ≡ Move.released plan (now (links .entry)) (now (marks .entry)) (now (rows .entry)) point (state (now (spans .entry)) (now (rings .entry)) (now (reports .entry)) told) .log .count ⌝ }
-    ensures { λ r. ⌜ now (reports .exit) ≡ Move.released plan (now (links .entry)) (now (marks .entry)) (now (rows .entry)) point (state (now (spans .entry)) (now (rings .entry)) (now (reports .entry)) told) .log .area ⌝ }
-    ensures { λ r. ⌜ now (spans .exit) ≡ Move.released plan (now (links .entry)) (now (marks .entry)) (now (rows .entry)) point (state (now (spans .entry)) (now (rings .entry)) (now (reports .entry)) told) .queues .spans ⌝ }
-    ensures { λ r. ⌜ now (rings .exit) ≡ Move.released plan (now (links .entry)) (now (marks .entry)) (now (rows .entry)) point (state (now (spans .entry)) (now (rings .entry)) (now (reports .entry)) told) .queues .rings ⌝ }
+    ensures { λ r. ⌜ r ≡ Move.released (planOf plan) (now (links .entry)) (now (marks .entry)) (now (rows .entry)) point (state (now (spans .entry)) (now (rings .entry)) (now (reports .entry)) told) .log .count ⌝ }
+    ensures { λ r. ⌜ now (reports .exit) ≡ Move.released (planOf plan) (now (links .entry)) (now (marks .entry)) (now (rows .entry)) point (state (now (spans .entry)) (now (rings .entry)) (now (reports .entry)) told) .log .area ⌝ }
+    ensures { λ r. ⌜ now (spans .exit) ≡ Move.released (planOf plan) (now (links .entry)) (now (marks .entry)) (now (rows .entry)) point (state (now (spans .entry)) (now (rings .entry)) (now (reports .entry)) told) .queues .spans ⌝ }
+    ensures { λ r. ⌜ now (rings .exit) ≡ Move.released (planOf plan) (now (links .entry)) (now (marks .entry)) (now (rows .entry)) point (state (now (spans .entry)) (now (rings .entry)) (now (reports .entry)) told) .queues .rings ⌝ }
 {
     let mut left = count(spans, 32);
     let mut reported = told;

@@ -7,7 +7,7 @@ use Rattle.plan.specs.declared.data.Plan.{Plan}
 use Rattle.replies.specs.declared.Answer.{Answer}
 use Rattle.replies.specs.Reply.{plain}
 use Rattle.replies.specs.Areas.{areas, withLinks, withMarks}
-use Rattle.listing.specs.RouteList.{listReply, listed, laid}
+use Rattle.listing.specs.RouteList.{listAnswer, listReply, listed, laid}
 use Rattle.queueing.specs.Head.{both}
 use Rattle.sending.specs.Send as Send
 use Rattle.sending.specs.Acknowledge as Acknowledge
@@ -15,7 +15,7 @@ use Rattle.waiting.specs.Wait as Wait
 use Rattle.rerouting.specs.Timer as Rerouting
 use Rattle.current.specs.Flags.{t8}
 use Rattle.node.specs.Memory.{Memory, memory, Gives}
-use Rattle.node.specs.Call.{sends, acknowledges, waitEnds, t8Ends, lists, listAnswer}
+use Rattle.node.specs.Call.{sends, acknowledges, waitEnds, t8Ends, lists}
 use Rattle.node.proofs.Giving.{gives}
 
 module _ (plan : Plan) (m : Memory) where

@@ -7,7 +7,7 @@ use Rattle.plan.specs.declared.data.Plan.{Plan}
 use Rattle.replies.specs.declared.Answer.{Answer}
 use Rattle.replies.specs.Reply.{plain}
 use Rattle.replies.specs.Areas.{Areas, areas, withLinks, withMarks}
-use Rattle.listing.specs.RouteList.{listReply, listed, laid}
+use Rattle.listing.specs.RouteList.{listAnswer, listReply, listed, laid}
 use Rattle.queueing.specs.Head.{both}
 use Rattle.sending.specs.Send as Send
 use Rattle.sending.specs.Acknowledge as Acknowledge
@@ -59,10 +59,6 @@ t8Ends plan x m =
     (withMarks a (Rerouting.expiredT8 plan (a .marks) x))
     (m .octets)
     (m .out)
-
--- the answer to the route list: how many octets it has
-abbrev pub listAnswer : ℕ → ℕ → Answer
-listAnswer reply octets = record { reply = reply; fsn = 0; octets = octets; reports = 0; delivers = false }
 
 -- the route list is asked for
 unfoldable pub lists : Plan → Memory → Result

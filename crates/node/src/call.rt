@@ -4,7 +4,6 @@ use changeover::fail::fail;
 use changeover::timer::expire;
 use listing::list::route_list;
 use passing::host::send_host;
-use plan::data::Plan;
 use receiving::receive;
 use replies::Answer;
 use replies::plain;
@@ -14,12 +13,10 @@ use rerouting::timer::expire_t10;
 use sending::acknowledge::acknowledge;
 use sending::send::send;
 use waiting::expire_wait;
-ghost use mathlib.Core.Path.{_≡_};
-ghost use lib.ListN.{length};
-ghost use Rattle.listing.specs.RouteList.{listReply, listed, laid};
+ghost use Rattle.planwords.specs.Words.{planOf};
 ghost use Rattle.replies.specs.Areas.{areas};
 ghost use Rattle.node.specs.Memory.{memory, Gives};
-ghost use Rattle.node.specs.Call.{callOf, listAnswer};
+ghost use Rattle.node.specs.Call.{callOf};
 
 pub enum Event {
     // Of a link: it comes into service, it fails, level 2 asks for its next message.
@@ -46,7 +43,7 @@ pub enum Event {
 
 // One call of the node: the message is that received or handed over, the output that of a send or of the route list.
 pub fn call(
-    plan: Plan,
+    plan: &[u16; 1024],
     links: &mut [u32; 256],
     marks: &mut [u32; 512],
     spans: &mut [u16; 70],
@@ -59,7 +56,7 @@ pub fn call(
     out: &mut [u8],
     reports: &mut [u64],
 ) -> Answer
-    ensures { λ r. ⌜ Gives (callOf plan event (now (message .entry)) (memory (areas (now (links .entry)) (now (marks .entry)) (now (spans .entry)) (now (rings .entry)) (now (rows .entry)) (now (arrivals .entry)) (now (reports .entry))) (now (octets .entry)) (now (out .entry)))) r (memory (areas (now (links .exit)) (now (marks .exit)) (now (spans .exit)) (now (rings .exit)) (now (rows .exit)) (now (arrivals .exit)) (now (reports .exit))) (now (octets .exit)) (now (out .exit))) ⌝ }
+    ensures { λ r. ⌜ Gives (callOf (planOf plan) event (now (message .entry)) (memory (areas (now (links .entry)) (now (marks .entry)) (now (spans .entry)) (now (rings .entry)) (now (rows .entry)) (now (arrivals .entry)) (now (reports .entry))) (now (octets .entry)) (now (out .entry)))) r (memory (areas (now (links .exit)) (now (marks .exit)) (now (spans .exit)) (now (rings .exit)) (now (rows .exit)) (now (arrivals .exit)) (now (reports .exit))) (now (octets .exit)) (now (out .exit))) ⌝ }
 {
     match event {
         Event::IntoService(link) => into_service(
@@ -118,21 +115,6 @@ pub fn call(
         Event::T6(x) => expire_t6(plan, links, marks, spans, rings, rows, x, reports),
         Event::T8(x) => plain(expire_t8(plan, marks, x)),
         Event::T10(x, set) => expire_t10(plan, links, marks, spans, rings, rows, arrivals, x, set),
-        Event::RouteList => list(plan, links, marks, out),
-    }
-}
-
-// The route list.
-fn list(plan: Plan, links: &[u32; 256], marks: &[u32; 512], out: &mut [u8]) -> Answer
-    ensures { λ r. ⌜ r ≡ listAnswer (listReply (now (out .entry)) plan) (length (listed (now (out .entry)) (now (links .entry)) (now (marks .entry)) plan)) ⌝ }
-    ensures { λ r. ⌜ now (out .exit) ≡ laid (now (out .entry)) 0 (listed (now (out .entry)) (now (links .entry)) (now (marks .entry)) plan) ⌝ }
-{
-    let written = route_list(plan, links, marks, out);
-    Answer {
-        reply: written.reply,
-        fsn: 0,
-        octets: written.count,
-        reports: 0,
-        delivers: false,
+        Event::RouteList => route_list(plan, links, marks, out),
     }
 }

@@ -13,10 +13,10 @@ use ending::cut_unknown;
 use lookup::link_named;
 use lookup::set_to;
 use making::Draft;
-use plan::data::Plan;
-use plan::find::find;
+use planwords::find::find;
 use rows::link::LinkRecord;
 use rows::link::load_link;
+ghost use Rattle.planwords.specs.Words.{planOf};
 ghost use mathlib.Core.Path.{_≡_};
 ghost use Rattle.orders.specs.Ask as Ask;
 
@@ -59,7 +59,7 @@ fn emergency_of(point: u16, slc: u8, link: u8) -> Draft
 }
 
 pub fn ask_coo(
-    plan: Plan,
+    plan: &[u16; 1024],
     links: &[u32; 256],
     arriving: u8,
     fsn: u8,
@@ -67,7 +67,7 @@ pub fn ask_coo(
     slc: u8,
     f: u8,
 ) -> Step
-    ensures { λ r. ⌜ r ≡ Ask.askCOO plan (now (links .entry)) arriving fsn point slc f ⌝ }
+    ensures { λ r. ⌜ r ≡ Ask.askCOO (planOf plan) (now (links .entry)) arriving fsn point slc f ⌝ }
 {
     let link = link_named(plan, point, slc);
     if 32 <= link {
@@ -85,8 +85,8 @@ pub fn ask_coo(
     order_step(known, link, own, emergency, cut_at(known, f))
 }
 
-pub fn ask_eco(plan: Plan, links: &[u32; 256], point: u16, slc: u8) -> Step
-    ensures { λ r. ⌜ r ≡ Ask.askECO plan (now (links .entry)) point slc ⌝ }
+pub fn ask_eco(plan: &[u16; 1024], links: &[u32; 256], point: u16, slc: u8) -> Step
+    ensures { λ r. ⌜ r ≡ Ask.askECO (planOf plan) (now (links .entry)) point slc ⌝ }
 {
     let link = link_named(plan, point, slc);
     if 32 <= link {
@@ -110,24 +110,24 @@ fn ack_step(link: u8, known: LinkRecord, parts: Cut) -> Step
     end(link, parts)
 }
 
-pub fn ask_coa(plan: Plan, links: &[u32; 256], point: u16, slc: u8, f: u8) -> Step
-    ensures { λ r. ⌜ r ≡ Ask.askCOA plan (now (links .entry)) point slc f ⌝ }
+pub fn ask_coa(plan: &[u16; 1024], links: &[u32; 256], point: u16, slc: u8, f: u8) -> Step
+    ensures { λ r. ⌜ r ≡ Ask.askCOA (planOf plan) (now (links .entry)) point slc f ⌝ }
 {
     let link = link_named(plan, point, slc);
     let known = load_link(links, link);
     ack_step(link, known, cut_at(known, f))
 }
 
-pub fn ask_eca(plan: Plan, links: &[u32; 256], point: u16, slc: u8) -> Step
-    ensures { λ r. ⌜ r ≡ Ask.askECA plan (now (links .entry)) point slc ⌝ }
+pub fn ask_eca(plan: &[u16; 1024], links: &[u32; 256], point: u16, slc: u8) -> Step
+    ensures { λ r. ⌜ r ≡ Ask.askECA (planOf plan) (now (links .entry)) point slc ⌝ }
 {
     let link = link_named(plan, point, slc);
     let known = load_link(links, link);
     ack_step(link, known, cut_unknown(known))
 }
 
-pub fn ask_cbd(plan: Plan, point: u16, slc: u8, code: u8) -> Step
-    ensures { λ r. ⌜ r ≡ Ask.askCBD plan point slc code ⌝ }
+pub fn ask_cbd(plan: &[u16; 1024], point: u16, slc: u8, code: u8) -> Step
+    ensures { λ r. ⌜ r ≡ Ask.askCBD (planOf plan) point slc code ⌝ }
 {
     if 32 <= link_named(plan, point, slc) {
         return nothing();
@@ -142,8 +142,8 @@ pub fn ask_cbd(plan: Plan, point: u16, slc: u8, code: u8) -> Step
 }
 
 // Whether a route set test is answered.
-fn allows(plan: Plan, links: &[u32; 256], marks: &[u32; 512], point: u16, x: u16) -> bool
-    ensures { λ r. ⌜ r ≡ Ask.allows plan (now (links .entry)) (now (marks .entry)) point x ⌝ }
+fn allows(plan: &[u16; 1024], links: &[u32; 256], marks: &[u32; 512], point: u16, x: u16) -> bool
+    ensures { λ r. ⌜ r ≡ Ask.allows (planOf plan) (now (links .entry)) (now (marks .entry)) point x ⌝ }
 {
     let asker = set_to(plan, point);
     if 8 <= asker {
@@ -159,8 +159,14 @@ fn allows(plan: Plan, links: &[u32; 256], marks: &[u32; 512], point: u16, x: u16
     current_set(plan, links, marks, found.place) != asker
 }
 
-pub fn ask_rst(plan: Plan, links: &[u32; 256], marks: &[u32; 512], point: u16, x: u16) -> Step
-    ensures { λ r. ⌜ r ≡ Ask.askRST plan (now (links .entry)) (now (marks .entry)) point x ⌝ }
+pub fn ask_rst(
+    plan: &[u16; 1024],
+    links: &[u32; 256],
+    marks: &[u32; 512],
+    point: u16,
+    x: u16,
+) -> Step
+    ensures { λ r. ⌜ r ≡ Ask.askRST (planOf plan) (now (links .entry)) (now (marks .entry)) point x ⌝ }
 {
     if !allows(plan, links, marks, point, x) {
         return nothing();

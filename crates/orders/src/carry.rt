@@ -3,10 +3,10 @@ use crate::step::Step;
 use ending::end_service;
 use making::make;
 use numbers::take_message;
-use plan::data::Plan;
 use replies::Answer;
 use replies::done;
 use replies::plain;
+ghost use Rattle.planwords.specs.Words.{planOf};
 ghost use mathlib.Core.Path.{_≡_};
 ghost use Rattle.replies.specs.Areas.{areas, outcome, Leaves};
 ghost use Rattle.replies.specs.Reply.{plain};
@@ -14,7 +14,7 @@ ghost use Rattle.orders.specs.Carry as Carry;
 
 // The answer of a step, if it has one: 0, or 8 or 10 where it finds no place or number.
 fn give_answer(
-    plan: Plan,
+    plan: &[u16; 1024],
     links: &[u32; 256],
     marks: &[u32; 512],
     spans: &mut [u16; 70],
@@ -24,7 +24,7 @@ fn give_answer(
     step: Step,
     reports: &[u64],
 ) -> u8
-    ensures { λ r. ⌜ Leaves (outcome (plain (Carry.answerReply plan step (areas (now (links .entry)) (now (marks .entry)) (now (spans .entry)) (now (rings .entry)) (now (rows .entry)) (now (arrivals .entry)) (now (reports .entry))))) (Carry.withAnswer plan step (areas (now (links .entry)) (now (marks .entry)) (now (spans .entry)) (now (rings .entry)) (now (rows .entry)) (now (arrivals .entry)) (now (reports .entry))))) (plain r) (areas (now (links .entry)) (now (marks .entry)) (now (spans .exit)) (now (rings .exit)) (now (rows .exit)) (now (arrivals .exit)) (now (reports .entry))) ⌝ }
+    ensures { λ r. ⌜ Leaves (outcome (plain (Carry.answerReply (planOf plan) step (areas (now (links .entry)) (now (marks .entry)) (now (spans .entry)) (now (rings .entry)) (now (rows .entry)) (now (arrivals .entry)) (now (reports .entry))))) (Carry.withAnswer (planOf plan) step (areas (now (links .entry)) (now (marks .entry)) (now (spans .entry)) (now (rings .entry)) (now (rows .entry)) (now (arrivals .entry)) (now (reports .entry))))) (plain r) (areas (now (links .entry)) (now (marks .entry)) (now (spans .exit)) (now (rings .exit)) (now (rows .exit)) (now (arrivals .exit)) (now (reports .entry))) ⌝ }
 {
     if !step.answers {
         return 0;
@@ -36,7 +36,7 @@ fn give_answer(
 
 // The step of a message that came over a link with a number.
 pub fn carry_out(
-    plan: Plan,
+    plan: &[u16; 1024],
     links: &mut [u32; 256],
     marks: &[u32; 512],
     spans: &mut [u16; 70],
@@ -48,7 +48,7 @@ pub fn carry_out(
     step: Step,
     reports: &mut [u64],
 ) -> Answer
-    ensures { λ r. ⌜ Leaves (Carry.carried plan arriving fsn step (areas (now (links .entry)) (now (marks .entry)) (now (spans .entry)) (now (rings .entry)) (now (rows .entry)) (now (arrivals .entry)) (now (reports .entry)))) r (areas (now (links .exit)) (now (marks .entry)) (now (spans .exit)) (now (rings .exit)) (now (rows .exit)) (now (arrivals .exit)) (now (reports .exit))) ⌝ }
+    ensures { λ r. ⌜ Leaves (Carry.carried (planOf plan) arriving fsn step (areas (now (links .entry)) (now (marks .entry)) (now (spans .entry)) (now (rings .entry)) (now (rows .entry)) (now (arrivals .entry)) (now (reports .entry)))) r (areas (now (links .exit)) (now (marks .entry)) (now (spans .exit)) (now (rings .exit)) (now (rows .exit)) (now (arrivals .exit)) (now (reports .exit))) ⌝ }
 {
     if 0 < step.reply {
         take_message(links, arriving, fsn);

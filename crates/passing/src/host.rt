@@ -4,11 +4,13 @@ use access::way::directed;
 use access::way::for_users;
 use discrimination::Came;
 use discrimination::from_host;
-use plan::data::Plan;
+use planwords::read::code;
+use planwords::read::given;
 use queueing::queue::queue_user;
 use replies::Answer;
 use replies::plain;
 use wire::header::Label;
+ghost use Rattle.planwords.specs.Words.{planOf};
 ghost use mathlib.Core.Path.{_≡_};
 ghost use mathlib.Core.List.{[]};
 ghost use lib.ListN.{length};
@@ -17,7 +19,7 @@ ghost use Rattle.passing.specs.Host as Host;
 
 // A message with a label that the host offers.
 fn offer(
-    plan: Plan,
+    plan: &[u16; 1024],
     links: &[u32; 256],
     marks: &[u32; 512],
     spans: &mut [u16; 70],
@@ -28,10 +30,10 @@ fn offer(
     label: Label,
     message: &[u8],
 ) -> Answer
-    ensures { λ r. ⌜ Leaves (Host.offered plan label (length (now (message .entry))) (areas (now (links .entry)) (now (marks .entry)) (now (spans .entry)) (now (rings .entry)) (now (rows .entry)) (now (arrivals .entry)) [])) r (areas (now (links .entry)) (now (marks .entry)) (now (spans .exit)) (now (rings .exit)) (now (rows .exit)) (now (arrivals .exit)) []) ⌝ }
-    ensures { λ r. ⌜ now (octets .exit) ≡ Host.octetsOffered plan label (areas (now (links .entry)) (now (marks .entry)) (now (spans .entry)) (now (rings .entry)) (now (rows .entry)) (now (arrivals .entry)) []) (now (octets .entry)) (now (message .entry)) ⌝ }
+    ensures { λ r. ⌜ Leaves (Host.offered (planOf plan) label (length (now (message .entry))) (areas (now (links .entry)) (now (marks .entry)) (now (spans .entry)) (now (rings .entry)) (now (rows .entry)) (now (arrivals .entry)) [])) r (areas (now (links .entry)) (now (marks .entry)) (now (spans .exit)) (now (rings .exit)) (now (rows .exit)) (now (arrivals .exit)) []) ⌝ }
+    ensures { λ r. ⌜ now (octets .exit) ≡ Host.octetsOffered (planOf plan) label (areas (now (links .entry)) (now (marks .entry)) (now (spans .entry)) (now (rings .entry)) (now (rows .entry)) (now (arrivals .entry)) []) (now (octets .entry)) (now (message .entry)) ⌝ }
 {
-    if label.dpc == plan.code {
+    if label.dpc == code(plan) {
         return plain(9);
     }
     let to = directed(plan, links, marks, for_users(), label.dpc, label.sls);
@@ -54,7 +56,7 @@ fn offer(
 
 // The host hands over a message of its own.
 pub fn send_host(
-    plan: Plan,
+    plan: &[u16; 1024],
     links: &[u32; 256],
     marks: &[u32; 512],
     spans: &mut [u16; 70],
@@ -64,10 +66,10 @@ pub fn send_host(
     arrivals: &mut [u64; 1],
     message: &[u8],
 ) -> Answer
-    ensures { λ r. ⌜ Leaves (Host.sent plan (now (message .entry)) (areas (now (links .entry)) (now (marks .entry)) (now (spans .entry)) (now (rings .entry)) (now (rows .entry)) (now (arrivals .entry)) [])) r (areas (now (links .entry)) (now (marks .entry)) (now (spans .exit)) (now (rings .exit)) (now (rows .exit)) (now (arrivals .exit)) []) ⌝ }
-    ensures { λ r. ⌜ now (octets .exit) ≡ Host.octetsSent plan (now (message .entry)) (areas (now (links .entry)) (now (marks .entry)) (now (spans .entry)) (now (rings .entry)) (now (rows .entry)) (now (arrivals .entry)) []) (now (octets .entry)) ⌝ }
+    ensures { λ r. ⌜ Leaves (Host.sent (planOf plan) (now (message .entry)) (areas (now (links .entry)) (now (marks .entry)) (now (spans .entry)) (now (rings .entry)) (now (rows .entry)) (now (arrivals .entry)) [])) r (areas (now (links .entry)) (now (marks .entry)) (now (spans .exit)) (now (rings .exit)) (now (rows .exit)) (now (arrivals .exit)) []) ⌝ }
+    ensures { λ r. ⌜ now (octets .exit) ≡ Host.octetsSent (planOf plan) (now (message .entry)) (areas (now (links .entry)) (now (marks .entry)) (now (spans .entry)) (now (rings .entry)) (now (rows .entry)) (now (arrivals .entry)) []) (now (octets .entry)) ⌝ }
 {
-    if !plan.given {
+    if !given(plan) {
         return plain(2);
     }
     match from_host(plan, message) {

@@ -6,8 +6,7 @@ use lookup::adjacent_of;
 use making::Draft;
 use making::make;
 use numbers::take_message;
-use plan::data::Plan;
-use plan::find::find;
+use planwords::find::find;
 use queueing::queue::queue_user;
 use replies::Answer;
 use replies::done;
@@ -15,6 +14,7 @@ use replies::plain;
 use rows::flag::flag;
 use rows::flag::set_flag;
 use wire::header::Label;
+ghost use Rattle.planwords.specs.Words.{planOf};
 ghost use mathlib.Core.Path.{_≡_};
 ghost use lib.ListN.{length};
 ghost use Rattle.replies.specs.Areas.{areas, Leaves};
@@ -32,8 +32,8 @@ pub fn ring_of(marks: &[u32; 512], to: Direction) -> u8
 }
 
 // The TFP about X to the adjacent point of a link.
-fn prohibited_to(plan: Plan, arriving: u8, x: u16) -> Draft
-    ensures { λ r. ⌜ r ≡ Pass.prohibitedTo plan arriving x ⌝ }
+fn prohibited_to(plan: &[u16; 1024], arriving: u8, x: u16) -> Draft
+    ensures { λ r. ⌜ r ≡ Pass.prohibitedTo (planOf plan) arriving x ⌝ }
 {
     Draft {
         heading: 0x14,
@@ -45,8 +45,8 @@ fn prohibited_to(plan: Plan, arriving: u8, x: u16) -> Draft
 }
 
 // Whether a TFP is due: X is configured and its T8 isn't running.
-fn tells(plan: Plan, marks: &[u32; 512], x: u16) -> bool
-    ensures { λ r. ⌜ r ≡ Pass.tells plan (now (marks .entry)) x ⌝ }
+fn tells(plan: &[u16; 1024], marks: &[u32; 512], x: u16) -> bool
+    ensures { λ r. ⌜ r ≡ Pass.tells (planOf plan) (now (marks .entry)) x ⌝ }
 {
     let found = find(plan, x);
     if !found.given {
@@ -56,8 +56,8 @@ fn tells(plan: Plan, marks: &[u32; 512], x: u16) -> bool
 }
 
 // T8 of a destination starts.
-fn start_t8(plan: Plan, marks: &mut [u32; 512], x: u16)
-    ensures { λ r. ⌜ now (marks .exit) ≡ Pass.withT8 plan (now (marks .entry)) x ⌝ }
+fn start_t8(plan: &[u16; 1024], marks: &mut [u32; 512], x: u16)
+    ensures { λ r. ⌜ now (marks .exit) ≡ Pass.withT8 (planOf plan) (now (marks .entry)) x ⌝ }
 {
     let found = find(plan, x);
     set_flag(marks, found.place, 5, true);
@@ -65,7 +65,7 @@ fn start_t8(plan: Plan, marks: &mut [u32; 512], x: u16)
 
 // A message for a point that can't be reached.
 fn not_reached(
-    plan: Plan,
+    plan: &[u16; 1024],
     links: &mut [u32; 256],
     marks: &mut [u32; 512],
     spans: &mut [u16; 70],
@@ -77,7 +77,7 @@ fn not_reached(
     x: u16,
     reports: &[u64],
 ) -> Answer
-    ensures { λ r. ⌜ Leaves (Pass.notReached plan arriving fsn x (areas (now (links .entry)) (now (marks .entry)) (now (spans .entry)) (now (rings .entry)) (now (rows .entry)) (now (arrivals .entry)) (now (reports .entry)))) r (areas (now (links .exit)) (now (marks .exit)) (now (spans .exit)) (now (rings .exit)) (now (rows .exit)) (now (arrivals .exit)) (now (reports .entry))) ⌝ }
+    ensures { λ r. ⌜ Leaves (Pass.notReached (planOf plan) arriving fsn x (areas (now (links .entry)) (now (marks .entry)) (now (spans .entry)) (now (rings .entry)) (now (rows .entry)) (now (arrivals .entry)) (now (reports .entry)))) r (areas (now (links .exit)) (now (marks .exit)) (now (spans .exit)) (now (rings .exit)) (now (rows .exit)) (now (arrivals .exit)) (now (reports .entry))) ⌝ }
 {
     let due = tells(plan, marks, x);
     if !due {
@@ -98,7 +98,7 @@ fn not_reached(
 
 // A message for another point that came over a link with a number.
 pub fn pass_on(
-    plan: Plan,
+    plan: &[u16; 1024],
     links: &mut [u32; 256],
     marks: &mut [u32; 512],
     spans: &mut [u16; 70],
@@ -112,8 +112,8 @@ pub fn pass_on(
     message: &[u8],
     reports: &[u64],
 ) -> Answer
-    ensures { λ r. ⌜ Leaves (Pass.passed plan arriving fsn label (length (now (message .entry))) (areas (now (links .entry)) (now (marks .entry)) (now (spans .entry)) (now (rings .entry)) (now (rows .entry)) (now (arrivals .entry)) (now (reports .entry)))) r (areas (now (links .exit)) (now (marks .exit)) (now (spans .exit)) (now (rings .exit)) (now (rows .exit)) (now (arrivals .exit)) (now (reports .entry))) ⌝ }
-    ensures { λ r. ⌜ now (octets .exit) ≡ Pass.octetsPassed plan label (areas (now (links .entry)) (now (marks .entry)) (now (spans .entry)) (now (rings .entry)) (now (rows .entry)) (now (arrivals .entry)) (now (reports .entry))) (now (octets .entry)) (now (message .entry)) ⌝ }
+    ensures { λ r. ⌜ Leaves (Pass.passed (planOf plan) arriving fsn label (length (now (message .entry))) (areas (now (links .entry)) (now (marks .entry)) (now (spans .entry)) (now (rings .entry)) (now (rows .entry)) (now (arrivals .entry)) (now (reports .entry)))) r (areas (now (links .exit)) (now (marks .exit)) (now (spans .exit)) (now (rings .exit)) (now (rows .exit)) (now (arrivals .exit)) (now (reports .entry))) ⌝ }
+    ensures { λ r. ⌜ now (octets .exit) ≡ Pass.octetsPassed (planOf plan) label (areas (now (links .entry)) (now (marks .entry)) (now (spans .entry)) (now (rings .entry)) (now (rows .entry)) (now (arrivals .entry)) (now (reports .entry))) (now (octets .entry)) (now (message .entry)) ⌝ }
 {
     let to = directed(plan, links, marks, for_users(), label.dpc, label.sls);
     if 32 <= to.link {

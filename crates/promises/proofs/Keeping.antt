@@ -1,6 +1,6 @@
 -- What keeps a state regular: queues that grow, and a link's record that is regular with its queue put in its place.
 -- Assumes nothing.
-use mathlib.Core.Path.{_≡_, ap, _∙_}
+use mathlib.Core.Path.{_≡_, sym, ap, _∙_, subst}
 use mathlib.Core.Bool.{true}
 use mathlib.Core.List.{List}
 use Prim.Native.Nat.{ℕ, _%_, _≤_, _<_}
@@ -8,14 +8,13 @@ use native.Mathlib.Nat.{mod-lt, mod-eq-of-lt}
 use native.Mathlib.Omega.{arith}
 use lib.Dec.{lit<}
 use lib.ListN.{length}
-use borrow.Author.Tests.{le-ltb}
 use Rattle.plan.proofs.Split.{split, alike}
 use Rattle.rows.specs.declared.link.LinkRecord.{LinkRecord}
-use Rattle.rows.specs.Rows.{recordAt, withRecord}
+use Rattle.rows.specs.Rows.{recordAt}
 use Rattle.rings.specs.Ring.{countOf}
 use Rattle.queueing.specs.Head.{Queues, both}
 use Rattle.promises.specs.Regular.{regularLink, Regular}
-use Rattle.promises.proofs.Records.{kept, record-same, record-other, record-length}
+use Rattle.promises.proofs.Records.{kept, Rewritten}
 use Rattle.promises.proofs.ByState.{grown}
 use Rattle.promises.proofs.Growing.{Grows, Kept, kept-none}
 
@@ -80,36 +79,35 @@ module _ (links spans rings rows octets : List ℕ) (regular : Regular links spa
     store = kept .sound;
   }
 
-  -- a link's record in its place, while its queue changes too
-  pub changed : (link : ℕ) → link < 32 → (new : LinkRecord) → InRange new → (rows′ octets′ : List ℕ) (after : Queues)
-      → Kept links link rows′ octets′ (both spans rings) after
-      → regularLink new (countOf (after .spans) link) ≡ true
-      → Regular (withRecord links link new) (after .spans) (after .rings) rows′ octets′
-  changed link h new low rows′ octets′ after kept holds = record {
-    links-long = record-length links link new ∙ regular .links-long;
-    each-link =
-        λ other within.
-        alike other link
-        (λ same.
-        ap (λ (l : ℕ). regularLink (recordAt (withRecord links link new) l) (countOf (after .spans) l)) same
-        ∙ ap (λ (k : LinkRecord). regularLink k (countOf (after .spans) link)) (record-same links link new (regular .links-long) h)
-        ∙ kept-regular new (countOf (after .spans) link) low
-        ∙ holds)
-        (λ apart.
-        ap (λ (k : LinkRecord). regularLink k (countOf (after .spans) other)) (record-other links link new other apart)
-        ∙ still-regular link (after .spans) (kept .grows) other within apart);
-    store = kept .sound;
-  }
+  -- another record in a link's place
+  module _ {link : ℕ} {new : LinkRecord} {now : List ℕ} (rewritten : Rewritten links link new now) (low : InRange new) where
+    -- while its queue changes too
+    pub changed : link < 32 → (rows′ octets′ : List ℕ) (after : Queues) → Kept links link rows′ octets′ (both spans rings) after
+        → regularLink new (countOf (after .spans) link) ≡ true
+        → Regular now (after .spans) (after .rings) rows′ octets′
+    changed h rows′ octets′ after kept holds = record {
+      links-long = rewritten .long ∙ regular .links-long;
+      each-link =
+          λ other within.
+          alike other link
+          (λ same.
+          ap (λ (l : ℕ). regularLink (recordAt now l) (countOf (after .spans) l)) same
+          ∙ ap (λ (k : LinkRecord). regularLink k (countOf (after .spans) link)) (rewritten .there (regular .links-long) h)
+          ∙ kept-regular new (countOf (after .spans) link) low
+          ∙ holds)
+          (λ apart.
+          ap (λ (k : LinkRecord). regularLink k (countOf (after .spans) other)) (rewritten .others other apart)
+          ∙ still-regular link (after .spans) (kept .grows) other within apart);
+      store = kept .sound;
+    }
 
-  -- the record alone
-  pub relinked : (link : ℕ) (new : LinkRecord) → InRange new → (link < 32 → regularLink new (countOf spans link) ≡ true)
-      → Regular (withRecord links link new) spans rings rows octets
-  relinked link new low holds =
-      split link 32
-      (λ h.
-      changed link h new low rows octets (both spans rings) (kept-none links link rows octets (both spans rings) (regular .store))
-      (holds h))
-      (λ past. simp (le-ltb link 32 past) regular)
+    -- the record alone
+    pub relinked : (link < 32 → regularLink new (countOf spans link) ≡ true) → Regular now spans rings rows octets
+    relinked holds =
+        split link 32
+        (λ h.
+        changed h rows octets (both spans rings) (kept-none links link rows octets (both spans rings) (regular .store)) (holds h))
+        (λ past. subst (λ (l : List ℕ). Regular l spans rings rows octets) (sym (rewritten .past past)) regular)
 
   -- other octets in their place
   pub octets-changed : (octets′ : List ℕ) → length octets′ ≡ 52416 → Regular links spans rings rows octets′

@@ -19,6 +19,7 @@ use Rattle.ending.specs.End.{cutNone, cutUnknown, outOfService}
 use Rattle.changeover.specs.Fail.{stateAt, replyOf, orderOf, changing, timerOf, openFailed, failed}
 use Rattle.changeover.specs.Timer as Timer
 use Rattle.promises.proofs.ByState.{open-is, is-changing, changes}
+use Rattle.promises.proofs.Records.{record-rewritten}
 use Rattle.promises.proofs.Keeping.{loaded-in-range, relinked}
 use Rattle.promises.proofs.Outcomes.{RegularIn, by-test, if-judged, rows-passed, link-within}
 use Rattle.promises.proofs.KeepsEnding.{out-regular}
@@ -46,7 +47,7 @@ module _ (a : Areas) (octets : List ℕ) (regular : RegularIn a octets) (plan : 
       let b : Areas = withMade plan (orderOf plan (a .links) link) a in
       let made = made-regular a octets regular plan (orderOf plan (a .links) link) in
       let starts = one-starts in
-      relinked (a .links) (b .spans) (b .rings) (b .rows) octets made link (changing known (timerOf plan a link))
+      relinked (a .links) (b .spans) (b .rings) (b .rows) octets made (record-rewritten (a .links) link (changing known (timerOf plan a link)))
       (record {
         state-low = omega arith;
         sent-low = loaded-in-range (a .links) link .sent-low;

@@ -16,7 +16,7 @@ use Rattle.moving.specs.Move.{movedAll}
 use Rattle.ending.specs.declared.Cut.{Cut}
 use Rattle.ending.specs.End.{outOf, linksOut, cleared, ended, outOfService}
 use Rattle.promises.specs.Regular.{Regular}
-use Rattle.promises.proofs.Records.{record-same, record-other}
+use Rattle.promises.proofs.Records.{record-rewritten}
 use Rattle.promises.proofs.ByState.{is-out}
 use Rattle.promises.proofs.Growing.{Grows, Kept, kept-on}
 use Rattle.promises.proofs.Leaving.{SoundAt, left-retired, left-dropped}
@@ -66,11 +66,11 @@ module _ (a : Areas) (octets : List ℕ) (regular : RegularIn a octets) (plan : 
   -- the link is out
   now-out : recordAt (linksOut (a .links) link) link .state ≡ 0
   unfolding linksOut
-  now-out = ap (λ (k : LinkRecord). k .state) (record-same (a .links) link (outOf known) (regular .links-long) h)
+  now-out = ap (λ (k : LinkRecord). k .state) (record-rewritten (a .links) link (outOf known) .there (regular .links-long) h)
 
   others : (other : ℕ) → (other ≡ link → ⊥) → recordAt (linksOut (a .links) link) other ≡ recordAt (a .links) other
   unfolding linksOut
-  others other apart = record-other (a .links) link (outOf known) other apart
+  others = record-rewritten (a .links) link (outOf known) .others
 
   -- with its queue empty
   in-place : (after : Queues) → Kept (a .links) link (a .rows) octets (both (a .spans) (a .rings)) after
@@ -78,8 +78,9 @@ module _ (a : Areas) (octets : List ℕ) (regular : RegularIn a octets) (plan : 
       → Regular (linksOut (a .links) link) (after .spans) (after .rings) (a .rows) octets
   unfolding linksOut
   in-place after kept none =
-      changed (a .links) (a .spans) (a .rings) (a .rows) octets regular link h (outOf known)
+      changed (a .links) (a .spans) (a .rings) (a .rows) octets regular (record-rewritten (a .links) link (outOf known))
       (record { state-low = omega arith; sent-low = omega arith; timer-low = omega arith; code-low = omega arith })
+      h
       (a .rows)
       octets
       after

@@ -18,11 +18,11 @@ use Rattle.network.specs.declared.management.Message.the-variants.{COO, COA, CB
 use Rattle.replies.specs.Reply.{done}
 use Rattle.replies.specs.Areas.{Areas, Outcome, outcome, withLinks}
 use Rattle.lookup.specs.Lookup.{linkNamed}
-use Rattle.numbers.specs.Numbers.{receivedTo, taken}
+use Rattle.numbers.specs.Numbers.{taken}
 use Rattle.numbers.specs.Taken.{takenOnly}
 use Rattle.waiting.specs.Wait.{answers, answered}
 use Rattle.managing.specs.Managed.{answeredBy, asked, carriedOut, managed}
-use Rattle.promises.proofs.Records.{record-same, record-other}
+use Rattle.promises.proofs.Records.{received-rewritten}
 use Rattle.promises.proofs.Outcomes.{RegularIn, by-test}
 use Rattle.promises.proofs.KeepsNumbers.{taken-regular}
 use Rattle.promises.proofs.KeepsWaiting.{answer-regular}
@@ -34,15 +34,15 @@ code-stays : (links : List ℕ) → length links ≡ 256 → (arriving fsn link 
     → recordAt (taken links arriving fsn) link .code ≡ recordAt links link .code
 unfolding taken
 code-stays links long arriving fsn link h =
-    let new = receivedTo (recordAt links arriving) fsn in
+    let rewritten = received-rewritten links arriving fsn in
     alike link arriving
     (λ same.
     let there : arriving < 32 = omega arith in
     ap (λ (l : ℕ). recordAt (taken links arriving fsn) l .code) same
-    ∙ ap (λ (k : LinkRecord). k .code) (record-same links arriving new long there)
+    ∙ ap (λ (k : LinkRecord). k .code) (rewritten .there long there)
     ∙ mod-eq-of-lt (mod-lt _ (lit< tt))
     ∙ ap (λ (l : ℕ). recordAt links l .code) (sym same))
-    (λ apart. ap (λ (k : LinkRecord). k .code) (record-other links arriving new link apart))
+    (λ apart. ap (λ (k : LinkRecord). k .code) (rewritten .others link apart))
 
 module _ (a : Areas) (octets : List ℕ) (regular : RegularIn a octets) (plan : Plan) (arriving fsn : ℕ) where
   -- a CBA

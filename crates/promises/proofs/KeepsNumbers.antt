@@ -11,17 +11,18 @@ use borrow.Author.Tests.{eqb-true, leb-false, not-false}
 use Rattle.plan.specs.declared.data.Plan.{Plan}
 use Rattle.plan.proofs.Split.{both-false}
 use Rattle.rows.specs.declared.link.LinkRecord.{LinkRecord}
-use Rattle.rows.specs.Rows.{recordAt, withRecord}
+use Rattle.rows.specs.Rows.{recordAt, withAcknowledged, withSent}
 use Rattle.rings.specs.Ring.{countOf}
 use Rattle.lookup.specs.Lookup.{isLink}
 use Rattle.queueing.specs.Head.{Queues, both}
 use Rattle.queueing.specs.Leave.{retired}
-use Rattle.numbers.specs.Numbers.{withNumbers, sentOne, upTo, acknowledgedTo, receivedTo, taken}
+use Rattle.numbers.specs.Numbers.{oneMore, upTo, leftSent, taken}
 use Rattle.sending.specs.Send as Send
 use Rattle.sending.specs.Acknowledge.{outOfRange, isOpen}
 use Rattle.sending.specs.Acknowledge as Acknowledge
 use Rattle.sending.proofs.Window.{one-more-sent, retired-and-left}
 use Rattle.promises.specs.Regular.{regularLink, Regular}
+use Rattle.promises.proofs.Records.{withNumbers, received-rewritten, sent-rewritten, acknowledged-rewritten}
 use Rattle.promises.proofs.ByState.{open-is, is-open}
 use Rattle.promises.proofs.Keeping.{InRange, loaded-in-range, changed, relinked}
 use Rattle.promises.proofs.Leaving.{left-retired}
@@ -33,7 +34,7 @@ module _ (links spans rings rows octets : List ℕ) (regular : Regular links spa
   unfolding taken regularLink
   taken-regular link fsn =
       let low = loaded-in-range links link in
-      relinked links spans rings rows octets regular link (receivedTo (recordAt links link) fsn)
+      relinked links spans rings rows octets regular (received-rewritten links link fsn)
       (record { state-low = low .state-low; sent-low = low .sent-low; timer-low = low .timer-low; code-low = low .code-low })
       (λ h. regular .each-link link h)
 
@@ -47,17 +48,17 @@ module _ (links spans rings rows octets : List ℕ) (regular : Regular links spa
 
     -- an open link whose numbers move on and whose sent messages are in its queue
     still-open : link < 32 → known .state ≡ 2 → (acknowledged sent more : ℕ) → sent ≤ more
-        → regularLink (withNumbers known acknowledged sent) more ≡ true
+        → regularLink (withNumbers known acknowledged (known .received) sent) more ≡ true
     still-open h is acknowledged sent more queued =
         let opened = open-is known count is (regular .each-link link h) in
-        is-open (withNumbers known acknowledged sent) more is
+        is-open (withNumbers known acknowledged (known .received) sent) more is
         (record {
           no-change = opened .no-change;
           still = record { no-t3 = opened .still .no-t3; no-code = opened .still .no-code };
           sent-queued = queued;
         })
 
-    numbers-low : (acknowledged sent : ℕ) → sent < 128 → InRange (withNumbers known acknowledged sent)
+    numbers-low : (acknowledged sent : ℕ) → sent < 128 → InRange (withNumbers known acknowledged (known .received) sent)
     numbers-low acknowledged sent below =
         let low = loaded-in-range links link in
         record { state-low = low .state-low; sent-low = below; timer-low = low .timer-low; code-low = low .code-low }
@@ -81,14 +82,14 @@ module _ (links spans rings rows octets : List ℕ) (regular : Regular links spa
       unfolding Send.linksAfter
       send-regular =
           if-done (λ (l : List ℕ). Regular l spans rings rows octets) (Send.replyOf plan links spans link room)
-          (withRecord links link (sentOne known))
+          (withSent links link (oneMore known))
           links
           (λ done.
           let is = unsent done in
           let more = one-more-sent plan links spans link room done in
-          relinked links spans rings rows octets regular link (sentOne known)
-          (numbers-low (known .acknowledged) (sentOne known .sent) (mod-lt _ (lit< tt)))
-          (λ h. still-open h (is .1) (known .acknowledged) (sentOne known .sent) count (omega arith)))
+          relinked links spans rings rows octets regular (sent-rewritten links link (oneMore known))
+          (numbers-low (known .acknowledged) (oneMore known) (mod-lt _ (lit< tt)))
+          (λ h. still-open h (is .1) (known .acknowledged) (oneMore known) count (omega arith)))
           regular
 
     module _ (b : ℕ) where
@@ -100,20 +101,21 @@ module _ (links spans rings rows octets : List ℕ) (regular : Regular links spa
 
       acknowledged-done : Acknowledge.replyOf plan links link b ≡ 0
           → let after = retired link (upTo known b) (both spans rings) in
-          Regular (withRecord links link (acknowledgedTo known b)) (after .spans) (after .rings) rows octets
+          Regular (withAcknowledged (withSent links link (leftSent known b)) link b) (after .spans) (after .rings) rows octets
       acknowledged-done done =
           let is = fits-open done in
           let after = retired link (upTo known b) (both spans rings) in
           let left = retired-and-left plan links link b done in
           let gone = left-retired links link rows octets (omega (arith, is .0)) (upTo known b) (both spans rings) (regular .store) in
           let opened = open-is known count (is .1) (regular .each-link link (is .0)) in
-          changed links spans rings rows octets regular link (is .0) (acknowledgedTo known b)
-          (numbers-low b (acknowledgedTo known b .sent) (mod-lt _ (lit< tt)))
+          changed links spans rings rows octets regular (acknowledged-rewritten links link b (leftSent known b))
+          (numbers-low b (leftSent known b) (mod-lt _ (lit< tt)))
+          (is .0)
           rows
           octets
           after
           (gone .kept)
-          (still-open (is .0) (is .1) b (acknowledgedTo known b .sent) (countOf (after .spans) link)
+          (still-open (is .0) (is .1) b (leftSent known b) (countOf (after .spans) link)
           (omega (arith, gone .fewer, opened .sent-queued)))
 
       -- an acknowledgement
@@ -124,7 +126,7 @@ module _ (links spans rings rows octets : List ℕ) (regular : Regular links spa
       acknowledge-regular =
           if-both-done (λ (l : List ℕ) (q : Queues). Regular l (q .spans) (q .rings) rows octets)
           (Acknowledge.replyOf plan links link b)
-          (withRecord links link (acknowledgedTo known b))
+          (withAcknowledged (withSent links link (leftSent known b)) link b)
           links
           (retired link (upTo known b) (both spans rings))
           (both spans rings)

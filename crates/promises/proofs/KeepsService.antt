@@ -30,6 +30,7 @@ use Rattle.promises.specs.Regular.{regularLink, Regular}
 use Rattle.promises.proofs.ByState.{is-waiting, is-open}
 use Rattle.promises.proofs.Carrying.{link-carries}
 use Rattle.promises.proofs.Growing.{Goes}
+use Rattle.promises.proofs.Records.{record-rewritten}
 use Rattle.promises.proofs.Keeping.{InRange, relinked}
 use Rattle.promises.proofs.Outcomes.{RegularIn, by-test, if-judged, rows-passed, link-within}
 use Rattle.promises.proofs.KeepsMaking.{management-regular}
@@ -151,7 +152,8 @@ module _ (plan : Plan) (sound : Plan.Sound plan) (a : Areas) (octets : List ℕ)
       if-judged octets (replyOf plan a link) _ a regular
       (λ done.
       let is = was-out (first-done done) in
-      relinked (a .links) (now .queues .spans) (now .queues .rings) (now .rows) octets declared-regular link (comesAs from)
+      relinked (a .links) (now .queues .spans) (now .queues .rings) (now .rows) octets declared-regular
+      (record-rewritten (a .links) link (comesAs from))
       (comes-in-range from)
       (λ h.
       comes-regular from (never-both plan sound (a .links) (a .marks) link (regular .links-long) h (is .1))

@@ -17,6 +17,7 @@ use Rattle.waiting.specs.Wait.{waits, runs, replyOf, stopped, expired, answered
 use Rattle.waiting.proofs.Opens.{opens-with-nothing-left}
 use Rattle.promises.specs.Regular.{regularLink, Regular}
 use Rattle.promises.proofs.ByState.{Still, by-state, out-is, waiting-is, open-is, changing-is, is-open}
+use Rattle.promises.proofs.Records.{record-rewritten}
 use Rattle.promises.proofs.Keeping.{InRange, loaded-in-range, relinked}
 use Rattle.promises.proofs.Outcomes.{by-test, if-done, rows-passed}
 
@@ -92,7 +93,7 @@ module _ (links spans rings rows octets : List ℕ) (regular : Regular links spa
   stops : (link timer : ℕ) → (link < 32 → runs (recordAt links link) timer ≡ true)
       → Regular (withRecord links link (stopped (recordAt links link) timer)) spans rings rows octets
   stops link timer running =
-      relinked links spans rings rows octets regular link (stopped (recordAt links link) timer)
+      relinked links spans rings rows octets regular (record-rewritten links link (stopped (recordAt links link) timer))
       (stopped-in-range (recordAt links link) timer (loaded-in-range links link))
       (λ h. stopped-regular (recordAt links link) (countOf spans link) (regular .each-link link h) timer (running h))
 

@@ -6,11 +6,11 @@ use lookup::is_link;
 use managing::manage;
 use numbers::take_message;
 use passing::pass::pass_on;
-use plan::data::Plan;
 use replies::Answer;
 use replies::plain;
 use reports::short;
 use rows::link::load_link;
+ghost use Rattle.planwords.specs.Words.{planOf};
 ghost use mathlib.Core.Path.{_≡_};
 ghost use lib.ListN.{length};
 ghost use Rattle.numbers.specs.Numbers.{taken};
@@ -19,8 +19,8 @@ ghost use Rattle.replies.specs.Areas.{areas, Leaves};
 ghost use Rattle.receiving.specs.Receive as Receive;
 
 // The reply before the message is looked at.
-fn receive_reply(plan: Plan, links: &[u32; 256], link: u8, fsn: u8, reports: &[u64]) -> u8
-    ensures { λ r. ⌜ r ≡ Receive.replyOf plan (now (links .entry)) link fsn (now (reports .entry)) ⌝ }
+fn receive_reply(plan: &[u16; 1024], links: &[u32; 256], link: u8, fsn: u8, reports: &[u64]) -> u8
+    ensures { λ r. ⌜ r ≡ Receive.replyOf (planOf plan) (now (links .entry)) link fsn (now (reports .entry)) ⌝ }
 {
     if 32 <= link {
         return 1;
@@ -70,7 +70,7 @@ fn drop_taken(links: &mut [u32; 256], link: u8, fsn: u8, reply: u8) -> Answer
 
 // A message came in over a link.
 pub fn receive(
-    plan: Plan,
+    plan: &[u16; 1024],
     links: &mut [u32; 256],
     marks: &mut [u32; 512],
     spans: &mut [u16; 70],
@@ -83,8 +83,8 @@ pub fn receive(
     message: &[u8],
     reports: &mut [u64],
 ) -> Answer
-    ensures { λ r. ⌜ Leaves (Receive.received plan link fsn (now (message .entry)) (areas (now (links .entry)) (now (marks .entry)) (now (spans .entry)) (now (rings .entry)) (now (rows .entry)) (now (arrivals .entry)) (now (reports .entry)))) r (areas (now (links .exit)) (now (marks .exit)) (now (spans .exit)) (now (rings .exit)) (now (rows .exit)) (now (arrivals .exit)) (now (reports .exit))) ⌝ }
-    ensures { λ r. ⌜ now (octets .exit) ≡ Receive.octetsReceived plan link fsn (now (message .entry)) (areas (now (links .entry)) (now (marks .entry)) (now (spans .entry)) (now (rings .entry)) (now (rows .entry)) (now (arrivals .entry)) (now (reports .entry))) (now (octets .entry)) ⌝ }
+    ensures { λ r. ⌜ Leaves (Receive.received (planOf plan) link fsn (now (message .entry)) (areas (now (links .entry)) (now (marks .entry)) (now (spans .entry)) (now (rings .entry)) (now (rows .entry)) (now (arrivals .entry)) (now (reports .entry)))) r (areas (now (links .exit)) (now (marks .exit)) (now (spans .exit)) (now (rings .exit)) (now (rows .exit)) (now (arrivals .exit)) (now (reports .exit))) ⌝ }
+    ensures { λ r. ⌜ now (octets .exit) ≡ Receive.octetsReceived (planOf plan) link fsn (now (message .entry)) (areas (now (links .entry)) (now (marks .entry)) (now (spans .entry)) (now (rings .entry)) (now (rows .entry)) (now (arrivals .entry)) (now (reports .entry))) (now (octets .entry)) ⌝ }
 {
     let reply = receive_reply(plan, links, link, fsn, reports);
     if 0 < reply {

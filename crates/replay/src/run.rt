@@ -7,8 +7,6 @@ use libc::STDERR_FILENO;
 use libc::STDOUT_FILENO;
 use pages::refusal::put_fault;
 use pages::refusal::put_unreadable;
-use plan::data::Plan;
-use plan::data::empty_plan;
 use shift::run::Place;
 use shift::run::View;
 use shift::run::run_lines;
@@ -25,13 +23,14 @@ pub fn run(
     counted: bool,
     packets: i32,
 ) {
+    let mut plan = [0u16; 1024];
     let mut links = [0u32; 256];
     let mut marks = [0u32; 512];
     let mut spans = [0u16; 70];
     let mut rings = [0u8; 8960];
     let mut arrivals = [0u64; 1];
     let made = start(
-        empty_plan(),
+        &mut plan,
         &mut links,
         &mut marks,
         &mut spans,
@@ -46,7 +45,7 @@ pub fn run(
         return;
     }
     run_pieces(
-        made.plan,
+        &plan,
         &mut links,
         &mut marks,
         &mut spans,
@@ -63,7 +62,7 @@ pub fn run(
 // Turn after turn: the lines that end in a piece of the record, as far as a page holds what they write. With none left, what a piece cuts goes
 // to the front of the next.
 fn run_pieces(
-    plan: Plan,
+    plan: &[u16; 1024],
     links: &mut [u32; 256],
     marks: &mut [u32; 512],
     spans: &mut [u16; 70],

@@ -86,15 +86,6 @@ module _ (plan : Plan) (a : Areas) (x : ℕ) (is-short : Bool) (tells : is-short
         ∙ ap (λ (m : List ℕ). after m (now m)) (cleared ∙ ap (λ (p : ℕ). withFlag (a .marks) p 4 false) at)
         ∙ is-done reply (replyT6 plan (a .marks) x (a .reports)) (is ∙ t6-reply false e) _ a h)
 
--- the RST, to the adjacent point of a set that there is
-abbrev pub test : ℕ → ℕ → Draft
-test point x = record { heading = 0x15; point = point; slc = 0; field = x; never = 32 }
-
-pub test-by : (plan : Plan) (x set : ℕ) (said : Bool) → ltb set 8 ≡ said
-    → test (cond said (setAt plan set .adjacent) 0) x ≡ testOf plan x set
-unfolding testOf
-test-by plan x set said e = ap (λ (t : Bool). test (cond t (setAt plan set .adjacent) 0) x) (sym e)
-
 -- a message that finds no place or number is refused, and any other is done, made or not
 makes : (plan : Plan) (draft : Draft) (a : Areas)
     → outcome (plain (makesReply plan draft a)) (withMade plan draft a)

@@ -60,7 +60,7 @@ replyT10 plan marks x set =
 -- the RST to the set's adjacent point
 unfoldable pub testOf : Plan → ℕ → ℕ → Draft
 testOf plan x set =
-    record { heading = 0x15; point = cond (ltb set 8) (setAt plan set .adjacent) 0; slc = 0; field = x; never = 32 }
+    record { heading = 0x15; point = setAt plan set .adjacent; slc = 0; field = x; never = 32 }
 
 -- "T10's expiry sends RST and restarts": 8 or 10 where the RST finds no place or number
 unfoldable pub expiredT10 : Plan → Areas → ℕ → ℕ → Outcome

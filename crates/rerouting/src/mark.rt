@@ -6,20 +6,21 @@ use current::current_set;
 use lookup::rank_by;
 use lookup::set_to;
 use numbers::take_message;
-use plan::data::Plan;
-use plan::find::find;
+use planwords::find::find;
+use planwords::read::code;
 use replies::Answer;
 use replies::done;
 use replies::plain;
 use rows::flag::flag;
 use rows::flag::set_flag;
+ghost use Rattle.planwords.specs.Words.{planOf};
 ghost use mathlib.Core.Path.{_≡_};
 ghost use Rattle.replies.specs.Areas.{areas, Leaves};
 ghost use Rattle.rerouting.specs.Mark as Mark;
 
 // The rank of the route to X by the set of the point, 4 where there is none.
-fn rank_for(plan: Plan, point: u16, x: u16) -> usize
-    ensures { λ r. ⌜ r ≡ Mark.rankFor plan point x ⌝ }
+fn rank_for(plan: &[u16; 1024], point: u16, x: u16) -> usize
+    ensures { λ r. ⌜ r ≡ Mark.rankFor (planOf plan) point x ⌝ }
 {
     let set = set_to(plan, point);
     if 8 <= set {
@@ -33,13 +34,13 @@ fn rank_for(plan: Plan, point: u16, x: u16) -> usize
 }
 
 // Whether a TFP or TFA counts.
-fn counts(plan: Plan, marks: &[u32; 512], point: u16, x: u16, prohibits: bool) -> bool
-    ensures { λ r. ⌜ r ≡ Mark.counts plan (now (marks .entry)) point x prohibits ⌝ }
+fn counts(plan: &[u16; 1024], marks: &[u32; 512], point: u16, x: u16, prohibits: bool) -> bool
+    ensures { λ r. ⌜ r ≡ Mark.counts (planOf plan) (now (marks .entry)) point x prohibits ⌝ }
 {
     if x == point {
         return false;
     }
-    if x == plan.code {
+    if x == code(plan) {
         return false;
     }
     let rank = rank_for(plan, point, x);
@@ -53,14 +54,14 @@ fn counts(plan: Plan, marks: &[u32; 512], point: u16, x: u16, prohibits: bool) -
 
 // Whether a TFA has X use another set than the one it used before.
 fn diverts(
-    plan: Plan,
+    plan: &[u16; 1024],
     links: &[u32; 256],
     before: &[u32; 512],
     after: &[u32; 512],
     x: u16,
     prohibits: bool,
 ) -> bool
-    ensures { λ r. ⌜ r ≡ Mark.diverts plan (now (links .entry)) (now (before .entry)) (now (after .entry)) x prohibits ⌝ }
+    ensures { λ r. ⌜ r ≡ Mark.diverts (planOf plan) (now (links .entry)) (now (before .entry)) (now (after .entry)) x prohibits ⌝ }
 {
     if prohibits {
         return false;
@@ -73,8 +74,15 @@ fn diverts(
 }
 
 // The mark is set or cleared, and T6 started.
-fn mark(plan: Plan, links: &[u32; 256], marks: &mut [u32; 512], point: u16, x: u16, prohibits: bool)
-    ensures { λ r. ⌜ now (marks .exit) ≡ Mark.marksAfter plan (now (links .entry)) (now (marks .entry)) point x prohibits ⌝ }
+fn mark(
+    plan: &[u16; 1024],
+    links: &[u32; 256],
+    marks: &mut [u32; 512],
+    point: u16,
+    x: u16,
+    prohibits: bool,
+)
+    ensures { λ r. ⌜ now (marks .exit) ≡ Mark.marksAfter (planOf plan) (now (links .entry)) (now (marks .entry)) point x prohibits ⌝ }
 {
     let before = *marks;
     let found = find(plan, x);
@@ -87,7 +95,7 @@ fn mark(plan: Plan, links: &[u32; 256], marks: &mut [u32; 512], point: u16, x: u
 
 // A TFP, or a TFA, about X came over a link with a number.
 pub fn transfer(
-    plan: Plan,
+    plan: &[u16; 1024],
     links: &mut [u32; 256],
     marks: &mut [u32; 512],
     spans: &[u16; 70],
@@ -101,7 +109,7 @@ pub fn transfer(
     prohibits: bool,
     reports: &mut [u64],
 ) -> Answer
-    ensures { λ r. ⌜ Leaves (Mark.transferred plan arriving fsn point x prohibits (areas (now (links .entry)) (now (marks .entry)) (now (spans .entry)) (now (rings .entry)) (now (rows .entry)) (now (arrivals .entry)) (now (reports .entry)))) r (areas (now (links .exit)) (now (marks .exit)) (now (spans .entry)) (now (rings .entry)) (now (rows .entry)) (now (arrivals .entry)) (now (reports .exit))) ⌝ }
+    ensures { λ r. ⌜ Leaves (Mark.transferred (planOf plan) arriving fsn point x prohibits (areas (now (links .entry)) (now (marks .entry)) (now (spans .entry)) (now (rings .entry)) (now (rows .entry)) (now (arrivals .entry)) (now (reports .entry)))) r (areas (now (links .exit)) (now (marks .exit)) (now (spans .entry)) (now (rings .entry)) (now (rows .entry)) (now (arrivals .entry)) (now (reports .exit))) ⌝ }
 {
     if !counts(plan, marks, point, x, prohibits) {
         take_message(links, arriving, fsn);

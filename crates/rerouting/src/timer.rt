@@ -4,24 +4,26 @@ use lookup::rank_by;
 use making::Draft;
 use making::make;
 use moving::release;
-use plan::data::Plan;
-use plan::find::find;
+use planwords::find::find;
+use planwords::read::given;
+use planwords::read::set_adjacent;
 use replies::Answer;
 use replies::done;
 use replies::plain;
 use reports::short;
 use rows::flag::flag;
 use rows::flag::set_flag;
+ghost use Rattle.planwords.specs.Words.{planOf};
 ghost use mathlib.Core.Path.{_≡_};
 ghost use mathlib.Core.List.{[]};
 ghost use Rattle.replies.specs.Areas.{areas, Leaves};
 ghost use Rattle.rerouting.specs.Timer as Timer;
 
 // Whether a destination is configured.
-pub fn is_destination(plan: Plan, x: u16) -> bool
-    ensures { λ r. ⌜ r ≡ Timer.isDestination plan x ⌝ }
+pub fn is_destination(plan: &[u16; 1024], x: u16) -> bool
+    ensures { λ r. ⌜ r ≡ Timer.isDestination (planOf plan) x ⌝ }
 {
-    if !plan.given {
+    if !given(plan) {
         return false;
     }
     let found = find(plan, x);
@@ -29,8 +31,8 @@ pub fn is_destination(plan: Plan, x: u16) -> bool
 }
 
 // The reply to the expiry of a destination's timer, by the word of its flag.
-fn timer_reply(plan: Plan, marks: &[u32; 512], x: u16, timer: usize) -> u8
-    ensures { λ r. ⌜ r ≡ Timer.replyOf plan (now (marks .entry)) x timer ⌝ }
+fn timer_reply(plan: &[u16; 1024], marks: &[u32; 512], x: u16, timer: usize) -> u8
+    ensures { λ r. ⌜ r ≡ Timer.replyOf (planOf plan) (now (marks .entry)) x timer ⌝ }
 {
     if 16384 <= x {
         return 1;
@@ -47,7 +49,7 @@ fn timer_reply(plan: Plan, marks: &[u32; 512], x: u16, timer: usize) -> u8
 
 // T6 of a destination expires: what is held apart for it moves.
 pub fn expire_t6(
-    plan: Plan,
+    plan: &[u16; 1024],
     links: &[u32; 256],
     marks: &mut [u32; 512],
     spans: &mut [u16; 70],
@@ -56,7 +58,7 @@ pub fn expire_t6(
     x: u16,
     reports: &mut [u64],
 ) -> Answer
-    ensures { λ r. ⌜ Leaves (Timer.expiredT6 plan (areas (now (links .entry)) (now (marks .entry)) (now (spans .entry)) (now (rings .entry)) (now (rows .entry)) [] (now (reports .entry))) x) r (areas (now (links .entry)) (now (marks .exit)) (now (spans .exit)) (now (rings .exit)) (now (rows .entry)) [] (now (reports .exit))) ⌝ }
+    ensures { λ r. ⌜ Leaves (Timer.expiredT6 (planOf plan) (areas (now (links .entry)) (now (marks .entry)) (now (spans .entry)) (now (rings .entry)) (now (rows .entry)) [] (now (reports .entry))) x) r (areas (now (links .entry)) (now (marks .exit)) (now (spans .exit)) (now (rings .exit)) (now (rows .entry)) [] (now (reports .exit))) ⌝ }
 {
     if short(reports) {
         return plain(1);
@@ -71,9 +73,9 @@ pub fn expire_t6(
 }
 
 // T8 of a destination expires.
-pub fn expire_t8(plan: Plan, marks: &mut [u32; 512], x: u16) -> u8
-    ensures { λ r. ⌜ r ≡ Timer.replyOf plan (now (marks .entry)) x 5 ⌝ }
-    ensures { λ r. ⌜ now (marks .exit) ≡ Timer.expiredT8 plan (now (marks .entry)) x ⌝ }
+pub fn expire_t8(plan: &[u16; 1024], marks: &mut [u32; 512], x: u16) -> u8
+    ensures { λ r. ⌜ r ≡ Timer.replyOf (planOf plan) (now (marks .entry)) x 5 ⌝ }
+    ensures { λ r. ⌜ now (marks .exit) ≡ Timer.expiredT8 (planOf plan) (now (marks .entry)) x ⌝ }
 {
     let reply = timer_reply(plan, marks, x, 5);
     if 0 < reply {
@@ -85,8 +87,8 @@ pub fn expire_t8(plan: Plan, marks: &mut [u32; 512], x: u16) -> u8
 }
 
 // The reply to T10's expiry before its RST is made.
-fn t10_reply(plan: Plan, marks: &[u32; 512], x: u16, set: u8) -> u8
-    ensures { λ r. ⌜ r ≡ Timer.replyT10 plan (now (marks .entry)) x set ⌝ }
+fn t10_reply(plan: &[u16; 1024], marks: &[u32; 512], x: u16, set: u8) -> u8
+    ensures { λ r. ⌜ r ≡ Timer.replyT10 (planOf plan) (now (marks .entry)) x set ⌝ }
 {
     if 16384 <= x {
         return 1;
@@ -112,15 +114,10 @@ fn t10_reply(plan: Plan, marks: &[u32; 512], x: u16, set: u8) -> u8
 }
 
 // The RST about X to the adjacent point of a set.
-fn test_of(plan: Plan, x: u16, set: u8) -> Draft
-    ensures { λ r. ⌜ r ≡ Timer.testOf plan x set ⌝ }
+fn test_of(plan: &[u16; 1024], x: u16, set: u8) -> Draft
+    ensures { λ r. ⌜ r ≡ Timer.testOf (planOf plan) x set ⌝ }
 {
-    let sets = plan.sets;
-    let mut point = 0u16;
-    if set < 8 {
-        let those = sets[set as usize];
-        point = those.adjacent;
-    }
+    let point = set_adjacent(plan, set);
     Draft {
         heading: 0x15,
         point,
@@ -132,7 +129,7 @@ fn test_of(plan: Plan, x: u16, set: u8) -> Draft
 
 // T10 of the route to X by a set expires.
 pub fn expire_t10(
-    plan: Plan,
+    plan: &[u16; 1024],
     links: &[u32; 256],
     marks: &[u32; 512],
     spans: &mut [u16; 70],
@@ -142,7 +139,7 @@ pub fn expire_t10(
     x: u16,
     set: u8,
 ) -> Answer
-    ensures { λ r. ⌜ Leaves (Timer.expiredT10 plan (areas (now (links .entry)) (now (marks .entry)) (now (spans .entry)) (now (rings .entry)) (now (rows .entry)) (now (arrivals .entry)) []) x set) r (areas (now (links .entry)) (now (marks .entry)) (now (spans .exit)) (now (rings .exit)) (now (rows .exit)) (now (arrivals .exit)) []) ⌝ }
+    ensures { λ r. ⌜ Leaves (Timer.expiredT10 (planOf plan) (areas (now (links .entry)) (now (marks .entry)) (now (spans .entry)) (now (rings .entry)) (now (rows .entry)) (now (arrivals .entry)) []) x set) r (areas (now (links .entry)) (now (marks .entry)) (now (spans .exit)) (now (rings .exit)) (now (rows .exit)) (now (arrivals .exit)) []) ⌝ }
 {
     let reply = t10_reply(plan, marks, x, set);
     if 0 < reply {

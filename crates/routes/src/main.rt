@@ -81,8 +81,9 @@ fn show_list(plan: Plan) {
     let links = all_open(plan);
     let marks = [0u32; 512];
     let mut out = [0u8; 4096];
-    let listed = listing::list::route_list(plan, &links, &marks, &mut out);
-    io::write_all(STDOUT_FILENO, text::part::between(&out, 0, listed.count));
+    let words = planstore::words_of(plan);
+    let listed = listing::list::route_list(&words, &links, &marks, &mut out);
+    io::write_all(STDOUT_FILENO, text::part::between(&out, 0, listed.octets));
 }
 
 fn show_fault(line: u64, fault: u64) {

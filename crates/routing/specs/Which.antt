@@ -2,6 +2,7 @@
 use mathlib.Core.Bool.{Bool, false, cond, not, _&&_, _||_}
 use mathlib.Core.List.{List, [], _∷_}
 use Prim.Native.Nat.{ℕ, _+_}
+use lib.Dec.{ltb}
 use Rattle.plan.specs.declared.data.Plan.{Plan}
 use Rattle.plan.specs.declared.data.LinkSet.{LinkSet}
 use Rattle.plan.specs.declared.data.Route.{Route}
@@ -13,6 +14,10 @@ unfoldable pub use Rattle.round.specs.Round.{firstServing, someServes}
 -- a plan of which only the sets are asked for
 abbrev pub ofSets : List LinkSet → Plan
 ofSets sets = record { given = false; code = 0; ni = 0; count = 0; sets = sets; links = []; destinations = [] }
+
+-- the set of a route, 8 where there is none, it is marked prohibited, or its set is none of the eight
+abbrev pub setFor : Route → Bool → ℕ
+setFor route prohibited = cond (route .given && (not prohibited && ltb (route .set) 8)) (route .set) 8
 
 -- the links that a route has to go round: those of its set, and none where there is no route or it is marked prohibited
 abbrev pub inTurn : Plan → Route → Bool → List ℕ

@@ -4,83 +4,76 @@ use crate::pattern::places_of;
 use crate::state::Need;
 use crate::state::marked;
 use crate::state::serves;
-use plan::data::LinkSet;
-use plan::data::Plan;
 use plan::data::Route;
+use planwords::read::destination_routes;
+use planwords::read::set_link;
 use round::table::place_for;
 ghost use mathlib.Core.Path.{_≡_};
-ghost use lib.ListN.{take};
+ghost use Rattle.plan.specs.Data.{linksOf};
+ghost use Rattle.planwords.specs.Words.{planOf};
 ghost use Rattle.routing.specs.State as State;
 ghost use Rattle.routing.specs.Which as Which;
 
-// The set of a route, one without links where there is no route or it is marked prohibited.
-fn set_for(sets: [LinkSet; 8], route: Route, prohibited: bool) -> LinkSet
-    ensures { λ r. ⌜ take (r .count) (r .links) ≡ Which.inTurn (Which.ofSets sets) route prohibited ⌝ }
+// The set of a route, 8 where there is no route or it is marked prohibited.
+fn set_for(route: Route, prohibited: bool) -> u8
+    ensures { λ r. ⌜ r ≡ Which.setFor route prohibited ⌝ }
 {
-    let none = LinkSet {
-        given: false,
-        adjacent: 0,
-        count: 0,
-        links: [0; 8],
-    };
     if !route.given {
-        return none;
+        return 8;
     }
     if prohibited {
-        return none;
+        return 8;
     }
-    let set = route.set as usize;
-    if 8 <= set {
-        return none;
+    if 8 <= route.set {
+        return 8;
     }
-    sets[set]
+    route.set
 }
 
 // The link of a set for an SLS, 32 where none serves: its normal link, and the table's where that one doesn't serve.
-fn link_for(links: &[u32; 256], need: Need, those: LinkSet, sls: u8) -> u8
-    ensures { λ r. ⌜ r ≡ Which.linkFor (State.serves (now (links .entry)) need) (take (those .count) (those .links)) sls ⌝ }
+fn link_for(plan: &[u16; 1024], links: &[u32; 256], need: Need, set: u8, sls: u8) -> u8
+    ensures { λ r. ⌜ r ≡ Which.linkFor (State.serves (now (links .entry)) need) (linksOf (planOf plan) set) sls ⌝ }
 {
-    let m = places_of(those);
+    if 8 <= set {
+        return 32;
+    }
+    let m = places_of(plan, set);
     if m == 0 {
         return 32;
     }
-    let round = those.links;
     let start = sls % m;
-    let normal = round[start as usize];
+    let normal = set_link(plan, set, start);
     if serves(links, need, normal) {
         return normal;
     }
-    let place = place_for(pattern_of(links, need, m, round), start);
+    let place = place_for(pattern_of(links, need, m, plan, set), start);
     if m <= place {
         return 32;
     }
-    round[place as usize]
+    set_link(plan, set, place)
 }
 
 // The link that a message for a destination with an SLS takes, 32 where there is none.
 pub fn choose(
-    plan: Plan,
+    plan: &[u16; 1024],
     links: &[u32; 256],
     marks: &[u32; 512],
     need: Need,
     destination: usize,
     sls: u8,
 ) -> u8
-    ensures { λ r. ⌜ r ≡ Which.chosen (State.serves (now (links .entry)) need) (State.isMarked (now (marks .entry)) destination) plan destination sls ⌝ }
+    ensures { λ r. ⌜ r ≡ Which.chosen (State.serves (now (links .entry)) need) (State.isMarked (now (marks .entry)) destination) (planOf plan) destination sls ⌝ }
 {
     if 64 <= destination {
         return 32;
     }
-    let destinations = plan.destinations;
-    let there = destinations[destination];
-    let routes = there.routes;
-    let sets = plan.sets;
-    choose_by(sets, routes, links, marks, need, destination, sls)
+    let routes = destination_routes(plan, destination);
+    choose_by(plan, routes, links, marks, need, destination, sls)
 }
 
-// The same by the sets and the destination's routes alone: they are few octets to hand over.
+// The same by the destination's routes.
 pub fn choose_by(
-    sets: [LinkSet; 8],
+    plan: &[u16; 1024],
     routes: [Route; 4],
     links: &[u32; 256],
     marks: &[u32; 512],
@@ -88,7 +81,7 @@ pub fn choose_by(
     destination: usize,
     sls: u8,
 ) -> u8
-    ensures { λ r. ⌜ r ≡ Which.linkFrom (State.serves (now (links .entry)) need) (State.isMarked (now (marks .entry)) destination) (Which.ofSets sets) sls 0 routes ⌝ }
+    ensures { λ r. ⌜ r ≡ Which.linkFrom (State.serves (now (links .entry)) need) (State.isMarked (now (marks .entry)) destination) (planOf plan) sls 0 routes ⌝ }
 {
     let mut rank = 0;
     let found = 'ranks: loop {
@@ -98,7 +91,7 @@ pub fn choose_by(
         let route = routes[rank];
         let prohibited = marked(marks, destination, rank);
         rank += 1;
-        let link = link_for(links, need, set_for(sets, route, prohibited), sls);
+        let link = link_for(plan, links, need, set_for(route, prohibited), sls);
         if link < 32 {
             break 'ranks link;
         }

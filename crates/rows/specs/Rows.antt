@@ -17,6 +17,10 @@ wordAt rows stretch area row place = cond (ltb row rows) (getD area (stretch * r
 abbrev pub withRow : ℕ → ℕ → List ℕ → ℕ → List ℕ → List ℕ
 withRow rows stretch area row words = cond (ltb row rows) (sets area (stretch * row) words) area
 
+-- the area with one word of a row set, all else as it was; a row that there is not changes nothing
+abbrev pub withWord : ℕ → ℕ → List ℕ → ℕ → ℕ → ℕ → List ℕ
+withWord rows stretch area row place value = cond (ltb row rows) (set area (stretch * row + place) value) area
+
 -- a ring's row in `spans`, of 35: its head and how many slots it holds
 abbrev pub spanAt : List ℕ → ℕ → Span
 spanAt spans ring = record { head = wordAt 35 2 spans ring 0; count = wordAt 35 2 spans ring 1 }
@@ -41,18 +45,22 @@ withSlot rows slot message =
     withRow 256 8 rows slot
     (message .arrival ∷ message .heading ∷ message .point ∷ message .sls ∷ message .field ∷ [])
 
--- a link's record in `links`, of 32: whatever stands in a word, it says one of the numbers that there can be
-abbrev pub recordAt : List ℕ → ℕ → LinkRecord
-recordAt links link =
+-- the record that words say by their place: whatever stands in a word, it says one of the numbers that there can be
+abbrev pub recordOf : (ℕ → ℕ) → LinkRecord
+recordOf words =
     record {
-      state = wordAt 32 8 links link 0 % 4;
-      acknowledged = wordAt 32 8 links link 1 % 128;
-      received = wordAt 32 8 links link 2 % 128;
-      sent = wordAt 32 8 links link 3 % 128;
-      timer = wordAt 32 8 links link 4 % 4;
-      t3 = ltb 0 (wordAt 32 8 links link 5);
-      code = wordAt 32 8 links link 6 % 64;
+      state = words 0 % 4;
+      acknowledged = words 1 % 128;
+      received = words 2 % 128;
+      sent = words 3 % 128;
+      timer = words 4 % 4;
+      t3 = ltb 0 (words 5);
+      code = words 6 % 64;
     }
+
+-- a link's record in `links`, of 32
+abbrev pub recordAt : List ℕ → ℕ → LinkRecord
+recordAt links link = recordOf (wordAt 32 8 links link)
 
 -- 1 for a flag that is set, 0 for one that isn't
 abbrev pub word : Bool → ℕ
@@ -69,6 +77,16 @@ withRecord links link known =
     ∷ word (known .t3)
     ∷ known .code
     ∷ [])
+
+-- one number of a link's row in its word, every other word as it stands: the last acknowledged, the last received, how many are sent
+abbrev pub withAcknowledged : List ℕ → ℕ → ℕ → List ℕ
+withAcknowledged links link number = withWord 32 8 links link 1 number
+
+abbrev pub withReceived : List ℕ → ℕ → ℕ → List ℕ
+withReceived links link number = withWord 32 8 links link 2 number
+
+abbrev pub withSent : List ℕ → ℕ → ℕ → List ℕ
+withSent links link number = withWord 32 8 links link 3 number
 
 -- a flag of a destination in `marks`, of 64: whether its word isn't 0
 abbrev pub flagAt : List ℕ → ℕ → ℕ → Bool

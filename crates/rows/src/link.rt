@@ -1,7 +1,8 @@
 // The record of a link: seven words of the eight for each of 32 links.
 use crate::flag::word;
 ghost use mathlib.Core.Path.{_≡_};
-ghost use Rattle.rows.specs.Rows.{recordAt, withRecord};
+ghost use Prim.Native.Nat.{_<_};
+ghost use Rattle.rows.specs.Rows.{recordAt, withRecord, withWord, withAcknowledged, withReceived, withSent};
 
 // What changes of a link.
 pub struct LinkRecord {
@@ -59,4 +60,34 @@ pub fn store_link(links: &mut [u32; 256], link: u8, known: LinkRecord)
     links[at + 4] = known.timer as u32;
     links[at + 5] = word(known.t3);
     links[at + 6] = known.code as u32;
+}
+
+// One word of a link's row alone.
+fn store_word(links: &mut [u32; 256], link: u8, place: usize, number: u8)
+    requires { ⌜ place < 8 ⌝ }
+    ensures { λ r. ⌜ now (links .exit) ≡ withWord 32 8 (now (links .entry)) link place number ⌝ }
+{
+    if 32 <= link {
+        return;
+    }
+    links[8 * (link as usize) + place] = number as u32;
+}
+
+// A message moves one or two of a link's numbers: their words alone are written.
+pub fn store_acknowledged(links: &mut [u32; 256], link: u8, number: u8)
+    ensures { λ r. ⌜ now (links .exit) ≡ withAcknowledged (now (links .entry)) link number ⌝ }
+{
+    store_word(links, link, 1, number);
+}
+
+pub fn store_received(links: &mut [u32; 256], link: u8, number: u8)
+    ensures { λ r. ⌜ now (links .exit) ≡ withReceived (now (links .entry)) link number ⌝ }
+{
+    store_word(links, link, 2, number);
+}
+
+pub fn store_sent(links: &mut [u32; 256], link: u8, number: u8)
+    ensures { λ r. ⌜ now (links .exit) ≡ withSent (now (links .entry)) link number ⌝ }
+{
+    store_word(links, link, 3, number);
 }

@@ -16,7 +16,7 @@ use Rattle.replies.proofs.Rows.{none-applies}
 use Rattle.rows.specs.Rows.{recordAt}
 use Rattle.rings.specs.Ring.{countOf}
 use Rattle.lookup.specs.Lookup.{isLink}
-use Rattle.numbers.specs.Numbers.{sentOne, upTo, acknowledgedTo}
+use Rattle.numbers.specs.Numbers.{oneMore, upTo, leftSent}
 use Rattle.sending.specs.Acknowledge.{outOfRange, isOpen, bInRange}
 use Rattle.sending.specs.Acknowledge as Acknowledge
 use Rattle.sending.specs.Send as Send
@@ -45,12 +45,12 @@ module _ (plan : Plan) (links spans : List ℕ) (link room : ℕ) (done : Send.r
       let below = leb-false 127 (known .sent) (both-false (leb (countOf spans link) (known .sent)) (leb 127 (known .sent)) counts .1) in
       omega arith
 
-  pub one-more-sent : sentOne (recordAt links link) .sent ≡ recordAt links link .sent + 1
+  pub one-more-sent : oneMore (recordAt links link) ≡ recordAt links link .sent + 1
   one-more-sent = let below = room-for-one in mod-eq-of-lt (omega arith)
 
 -- an acknowledgement that is done
 module _ (plan : Plan) (links : List ℕ) (link b : ℕ) (done : Acknowledge.replyOf plan links link b ≡ 0) where
-  pub retired-and-left : acknowledgedTo (recordAt links link) b .sent + upTo (recordAt links link) b ≡ recordAt links link .sent
+  pub retired-and-left : leftSent (recordAt links link) b + upTo (recordAt links link) b ≡ recordAt links link .sent
   unfolding Acknowledge.replyOf
   retired-and-left =
       let known = recordAt links link in

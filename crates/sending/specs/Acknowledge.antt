@@ -6,12 +6,12 @@ use mathlib.Core.List.{List, [], _∷_}
 use lib.Dec.{eqb, leb}
 use Rattle.plan.specs.declared.data.Plan.{Plan}
 use Rattle.counting.specs.Counting.{inRange}
-use Rattle.rows.specs.Rows.{recordAt, withRecord}
+use Rattle.rows.specs.Rows.{recordAt, withAcknowledged, withSent}
 use Rattle.replies.specs.Reply.{row, first, ifDone}
 use Rattle.lookup.specs.Lookup.{isLink}
 use Rattle.queueing.specs.Head.{Queues}
 use Rattle.queueing.specs.Leave.{retired}
-use Rattle.numbers.specs.Numbers.{upTo, acknowledgedTo}
+use Rattle.numbers.specs.Numbers.{upTo, leftSent}
 
 -- "an argument out of range"
 abbrev pub outOfRange : ℕ → ℕ → Bool
@@ -35,10 +35,12 @@ replyOf plan links link b =
     ∷ row 6 (not (bInRange links link b))
     ∷ [])
 
--- the links after it
+-- the links after it: b is the last acknowledged, and the sent ones behind it are left
 unfoldable pub linksAfter : Plan → List ℕ → ℕ → ℕ → List ℕ
 linksAfter plan links link b =
-    ifDone (replyOf plan links link b) (withRecord links link (acknowledgedTo (recordAt links link) b)) links
+    ifDone (replyOf plan links link b)
+    (withAcknowledged (withSent links link (leftSent (recordAt links link) b)) link b)
+    links
 
 -- the queues after it
 unfoldable pub queuesAfter : Plan → List ℕ → Queues → ℕ → ℕ → Queues

@@ -7,7 +7,7 @@ use lib.Dec.{eqb, ltb, leb}
 use lib.ListN.{length}
 use Rattle.plan.specs.declared.data.Plan.{Plan}
 use Rattle.rows.specs.declared.slot.Slot.{Slot}
-use Rattle.rows.specs.Rows.{recordAt, withRecord, slotAt}
+use Rattle.rows.specs.Rows.{recordAt, withSent, slotAt}
 use Rattle.rings.specs.Ring.{countOf, atOf}
 use Rattle.slots.specs.Message.{copied, copiedSize}
 use Rattle.wire.specs.declared.header.Label.{Label}
@@ -17,7 +17,7 @@ use Rattle.network.specs.Management.{listed, octetsOf, writtenInto, writtenCoun
 use Rattle.replies.specs.declared.Answer.{Answer}
 use Rattle.replies.specs.Reply.{row, first, plain, ifDone}
 use Rattle.lookup.specs.Lookup.{isLink}
-use Rattle.numbers.specs.Numbers.{nextNumber, sentOne}
+use Rattle.numbers.specs.Numbers.{oneMore, nextNumber}
 
 -- the reply: 1, 2, 5
 unfoldable pub replyOf : Plan → List ℕ → List ℕ → ℕ → ℕ → ℕ
@@ -32,7 +32,7 @@ replyOf plan links spans link room =
 -- the links after it: one message more is sent
 unfoldable pub linksAfter : Plan → List ℕ → List ℕ → ℕ → ℕ → List ℕ
 linksAfter plan links spans link room =
-    ifDone (replyOf plan links spans link room) (withRecord links link (sentOne (recordAt links link))) links
+    ifDone (replyOf plan links spans link room) (withSent links link (oneMore (recordAt links link))) links
 
 -- the first unsent message: the sent ones stand before it
 unfoldable pub firstUnsent : List ℕ → List ℕ → List ℕ → ℕ → ℕ

@@ -2,18 +2,19 @@
 use counting::distance;
 use counting::in_range;
 use lookup::is_link;
-use numbers::acknowledged_to;
-use plan::data::Plan;
+use numbers::left_sent;
 use queueing::leave::retire;
 use rows::link::load_link;
-use rows::link::store_link;
+use rows::link::store_acknowledged;
+use rows::link::store_sent;
+ghost use Rattle.planwords.specs.Words.{planOf};
 ghost use mathlib.Core.Path.{_≡_};
 ghost use Rattle.queueing.specs.Head.{both};
 ghost use Rattle.sending.specs.Acknowledge as Acknowledge;
 
 // The reply.
-fn acknowledge_reply(plan: Plan, links: &[u32; 256], link: u8, b: u8) -> u8
-    ensures { λ r. ⌜ r ≡ Acknowledge.replyOf plan (now (links .entry)) link b ⌝ }
+fn acknowledge_reply(plan: &[u16; 1024], links: &[u32; 256], link: u8, b: u8) -> u8
+    ensures { λ r. ⌜ r ≡ Acknowledge.replyOf (planOf plan) (now (links .entry)) link b ⌝ }
 {
     if 32 <= link {
         return 1;
@@ -36,17 +37,17 @@ fn acknowledge_reply(plan: Plan, links: &[u32; 256], link: u8, b: u8) -> u8
 
 // Level 2 acknowledges up to b.
 pub fn acknowledge(
-    plan: Plan,
+    plan: &[u16; 1024],
     links: &mut [u32; 256],
     spans: &mut [u16; 70],
     rings: &mut [u8; 8960],
     link: u8,
     b: u8,
 ) -> u8
-    ensures { λ r. ⌜ r ≡ Acknowledge.replyOf plan (now (links .entry)) link b ⌝ }
-    ensures { λ r. ⌜ now (links .exit) ≡ Acknowledge.linksAfter plan (now (links .entry)) link b ⌝ }
-    ensures { λ r. ⌜ now (spans .exit) ≡ Acknowledge.queuesAfter plan (now (links .entry)) (both (now (spans .entry)) (now (rings .entry))) link b .spans ⌝ }
-    ensures { λ r. ⌜ now (rings .exit) ≡ Acknowledge.queuesAfter plan (now (links .entry)) (both (now (spans .entry)) (now (rings .entry))) link b .rings ⌝ }
+    ensures { λ r. ⌜ r ≡ Acknowledge.replyOf (planOf plan) (now (links .entry)) link b ⌝ }
+    ensures { λ r. ⌜ now (links .exit) ≡ Acknowledge.linksAfter (planOf plan) (now (links .entry)) link b ⌝ }
+    ensures { λ r. ⌜ now (spans .exit) ≡ Acknowledge.queuesAfter (planOf plan) (now (links .entry)) (both (now (spans .entry)) (now (rings .entry))) link b .spans ⌝ }
+    ensures { λ r. ⌜ now (rings .exit) ≡ Acknowledge.queuesAfter (planOf plan) (now (links .entry)) (both (now (spans .entry)) (now (rings .entry))) link b .rings ⌝ }
 {
     let reply = acknowledge_reply(plan, links, link, b);
     if 0 < reply {
@@ -54,6 +55,7 @@ pub fn acknowledge(
     }
     let known = load_link(links, link);
     retire(spans, rings, link, distance(known.acknowledged, b));
-    store_link(links, link, acknowledged_to(known, b));
+    store_sent(links, link, left_sent(known, b));
+    store_acknowledged(links, link, b);
     0
 }

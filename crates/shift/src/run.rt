@@ -4,7 +4,6 @@ use node::call::Event;
 use node::call::call;
 use pages::refusal::put_unreadable;
 use pages::reported::put_reports;
-use plan::data::Plan;
 use record::Reading;
 use record::read_line;
 use replies::Answer;
@@ -12,6 +11,7 @@ use std::num::wrapping_add_u64;
 use text::part::Part;
 use text::part::between;
 use text::part::line;
+ghost use Rattle.planwords.specs.Words.{planOf};
 ghost use mathlib.Core.Path.{_≡_};
 ghost use mathlib.Core.Bool.{_&&_};
 ghost use Prim.Native.Nat.{_≤_};
@@ -42,7 +42,7 @@ pub struct View {
 // The lines that end in a text, from a place on, until one can't be read or the page has its fill: it holds 65,536 octets and
 // then the longest answer. With areas of other lengths nothing is run.
 pub fn run_lines(
-    plan: Plan,
+    plan: &[u16; 1024],
     links: &mut [u32; 256],
     marks: &mut [u32; 512],
     spans: &mut [u16; 70],
@@ -58,10 +58,10 @@ pub fn run_lines(
     reports: &mut [u64],
     out: &mut [u8],
 ) -> Place
-    ensures { λ r. ⌜ r ≡ placeAt from (now (out .entry)) (ranAll plan view (linesFrom (now (text .entry)) (from .at)) (now (out .entry)) (deskAt (memory (areas (now (links .entry)) (now (marks .entry)) (now (spans .entry)) (now (rings .entry)) (now (rows .entry)) (now (arrivals .entry)) (now (reports .entry))) (now (octets .entry)) (now (sent .entry))) (now (message .entry)) (now (out .entry)) from)) ⌝ }
-    ensures { λ r. ⌜ now (out .exit) ≡ pageWith (ranAll plan view (linesFrom (now (text .entry)) (from .at)) (now (out .entry)) (deskAt (memory (areas (now (links .entry)) (now (marks .entry)) (now (spans .entry)) (now (rings .entry)) (now (rows .entry)) (now (arrivals .entry)) (now (reports .entry))) (now (octets .entry)) (now (sent .entry))) (now (message .entry)) (now (out .entry)) from)) (now (out .entry)) ⌝ }
-    ensures { λ r. ⌜ memory (areas (now (links .exit)) (now (marks .exit)) (now (spans .exit)) (now (rings .exit)) (now (rows .exit)) (now (arrivals .exit)) (now (reports .exit))) (now (octets .exit)) (now (sent .exit)) ≡ (ranAll plan view (linesFrom (now (text .entry)) (from .at)) (now (out .entry)) (deskAt (memory (areas (now (links .entry)) (now (marks .entry)) (now (spans .entry)) (now (rings .entry)) (now (rows .entry)) (now (arrivals .entry)) (now (reports .entry))) (now (octets .entry)) (now (sent .entry))) (now (message .entry)) (now (out .entry)) from)) .memory ⌝ }
-    ensures { λ r. ⌜ now (message .exit) ≡ (ranAll plan view (linesFrom (now (text .entry)) (from .at)) (now (out .entry)) (deskAt (memory (areas (now (links .entry)) (now (marks .entry)) (now (spans .entry)) (now (rings .entry)) (now (rows .entry)) (now (arrivals .entry)) (now (reports .entry))) (now (octets .entry)) (now (sent .entry))) (now (message .entry)) (now (out .entry)) from)) .message ⌝ }
+    ensures { λ r. ⌜ r ≡ placeAt from (now (out .entry)) (ranAll (planOf plan) view (linesFrom (now (text .entry)) (from .at)) (now (out .entry)) (deskAt (memory (areas (now (links .entry)) (now (marks .entry)) (now (spans .entry)) (now (rings .entry)) (now (rows .entry)) (now (arrivals .entry)) (now (reports .entry))) (now (octets .entry)) (now (sent .entry))) (now (message .entry)) (now (out .entry)) from)) ⌝ }
+    ensures { λ r. ⌜ now (out .exit) ≡ pageWith (ranAll (planOf plan) view (linesFrom (now (text .entry)) (from .at)) (now (out .entry)) (deskAt (memory (areas (now (links .entry)) (now (marks .entry)) (now (spans .entry)) (now (rings .entry)) (now (rows .entry)) (now (arrivals .entry)) (now (reports .entry))) (now (octets .entry)) (now (sent .entry))) (now (message .entry)) (now (out .entry)) from)) (now (out .entry)) ⌝ }
+    ensures { λ r. ⌜ memory (areas (now (links .exit)) (now (marks .exit)) (now (spans .exit)) (now (rings .exit)) (now (rows .exit)) (now (arrivals .exit)) (now (reports .exit))) (now (octets .exit)) (now (sent .exit)) ≡ (ranAll (planOf plan) view (linesFrom (now (text .entry)) (from .at)) (now (out .entry)) (deskAt (memory (areas (now (links .entry)) (now (marks .entry)) (now (spans .entry)) (now (rings .entry)) (now (rows .entry)) (now (arrivals .entry)) (now (reports .entry))) (now (octets .entry)) (now (sent .entry))) (now (message .entry)) (now (out .entry)) from)) .memory ⌝ }
+    ensures { λ r. ⌜ now (message .exit) ≡ (ranAll (planOf plan) view (linesFrom (now (text .entry)) (from .at)) (now (out .entry)) (deskAt (memory (areas (now (links .entry)) (now (marks .entry)) (now (spans .entry)) (now (rings .entry)) (now (rows .entry)) (now (arrivals .entry)) (now (reports .entry))) (now (octets .entry)) (now (sent .entry))) (now (message .entry)) (now (out .entry)) from)) .message ⌝ }
 {
     if !fit(message.len(), sent.len(), reports.len(), out.len()) {
         return from;
@@ -112,7 +112,7 @@ fn fit(message: usize, sent: usize, reports: usize, out: usize) -> bool
 
 // One line: read, called, answered.
 fn run_line(
-    plan: Plan,
+    plan: &[u16; 1024],
     links: &mut [u32; 256],
     marks: &mut [u32; 512],
     spans: &mut [u16; 70],
@@ -135,7 +135,7 @@ fn run_line(
     requires { ⌜ length (now sent) ≡ 4096 ⌝ }
     requires { ⌜ length (now reports) ≡ 1024 ⌝ }
     requires { ⌜ length (now out) ≡ 262144 ⌝ }
-    ensures { λ r. ⌜ deskAt (memory (areas (now (links .exit)) (now (marks .exit)) (now (spans .exit)) (now (rings .exit)) (now (rows .exit)) (now (arrivals .exit)) (now (reports .exit))) (now (octets .exit)) (now (sent .exit))) (now (message .exit)) (now (out .exit)) r ≡ ranLine plan view (slice at (part .end) (now (text .entry))) (part .next) (deskAt (memory (areas (now (links .entry)) (now (marks .entry)) (now (spans .entry)) (now (rings .entry)) (now (rows .entry)) (now (arrivals .entry)) (now (reports .entry))) (now (octets .entry)) (now (sent .entry))) (now (message .entry)) (now (out .entry)) place) ⌝ }
+    ensures { λ r. ⌜ deskAt (memory (areas (now (links .exit)) (now (marks .exit)) (now (spans .exit)) (now (rings .exit)) (now (rows .exit)) (now (arrivals .exit)) (now (reports .exit))) (now (octets .exit)) (now (sent .exit))) (now (message .exit)) (now (out .exit)) r ≡ ranLine (planOf plan) view (slice at (part .end) (now (text .entry))) (part .next) (deskAt (memory (areas (now (links .entry)) (now (marks .entry)) (now (spans .entry)) (now (rings .entry)) (now (rows .entry)) (now (arrivals .entry)) (now (reports .entry))) (now (octets .entry)) (now (sent .entry))) (now (message .entry)) (now (out .entry)) place) ⌝ }
     ensures { λ r. ⌜ r .pending ≤ 262144 ⌝ }
     ensures { λ r. ⌜ drop (r .pending) (now (out .exit)) ≡ drop (r .pending) (now (out .entry)) ⌝ }
 {

@@ -3,11 +3,10 @@
 use Prim.Native.Nat.{ℕ}
 use mathlib.Core.List.{List}
 use lib.ListN.{set}
-use Rattle.plan.specs.declared.data.Plan.{Plan}
 use Rattle.store.specs.Fresh.{emptied}
 use Rattle.store.specs.Fresh as Fresh
 use Rattle.configuration.specs.declared.configure.Configured.{Configured}
-use Rattle.replies.specs.Reply.{ifDone}
+use Rattle.start.specs.declared.Started.{Started}
 
 -- every link is out, and no timer runs
 abbrev pub freshLinks : List ℕ → List ℕ
@@ -28,7 +27,6 @@ freshRings rings = Fresh.freshRings rings
 abbrev pub freshArrivals : List ℕ → List ℕ
 freshArrivals arrivals = set arrivals 0 0
 
--- what a configuration answers, where a plan runs: the new plan, or the fault, its line and the plan that runs
-abbrev pub started : Configured → Plan → Configured
-started made running =
-    record { line = made .line; fault = made .fault; plan = ifDone (made .fault) (made .plan) running }
+-- what a configuration answers: no fault, or "the first faulty line" and "the first of its faults"
+abbrev pub started : Configured → Started
+started made = record { line = made .line; fault = made .fault }

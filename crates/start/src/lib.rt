@@ -1,9 +1,10 @@
 // A fresh node: what an accepted configuration leaves in the lent areas.
-use configuration::configure::Configured;
 use configuration::configure::configure;
-use plan::data::Plan;
+use planstore::store;
 use store::fresh::fresh;
 ghost use mathlib.Core.Path.{_≡_};
+ghost use Rattle.planwords.specs.Words.{planAt, planOf};
+ghost use Rattle.planstore.specs.Layout.{wordsOf};
 ghost use Rattle.configuration.specs.Configure.{configured};
 ghost use Rattle.replies.specs.Reply.{ifDone};
 ghost use Rattle.start.specs.Start as Start;
@@ -30,34 +31,45 @@ fn empty_marks(marks: &mut [u32; 512])
     }
 }
 
-// The node that a text makes, or the fault and the plan that runs; a refused text touches nothing.
+// What a configuration answers: fault 0, or the first faulty line and its first fault.
+#[repr(C)]
+pub struct Started {
+    pub line: usize,
+    pub fault: u8,
+}
+
+// The node that a text makes, its plan stored in the words; a refused text touches nothing.
 pub fn start(
-    running: Plan,
+    plan: &mut [u16; 1024],
     links: &mut [u32; 256],
     marks: &mut [u32; 512],
     spans: &mut [u16; 70],
     rings: &mut [u8; 8960],
     arrivals: &mut [u64; 1],
     text: &[u8],
-) -> Configured
-    ensures { λ r. ⌜ r ≡ Start.started (configured (now (text .entry))) running ⌝ }
+) -> Started
+    ensures { λ r. ⌜ r ≡ Start.started (configured (now (text .entry))) ⌝ }
+    ensures { λ r. ⌜ now (plan .exit) ≡ ifDone (configured (now (text .entry)) .fault) (wordsOf (configured (now (text .entry)) .plan)) (now (plan .entry)) ⌝ }
     ensures { λ r. ⌜ now (links .exit) ≡ ifDone (configured (now (text .entry)) .fault) (Start.freshLinks (now (links .entry))) (now (links .entry)) ⌝ }
     ensures { λ r. ⌜ now (marks .exit) ≡ ifDone (configured (now (text .entry)) .fault) (Start.freshMarks (now (marks .entry))) (now (marks .entry)) ⌝ }
     ensures { λ r. ⌜ now (spans .exit) ≡ ifDone (configured (now (text .entry)) .fault) (Start.freshSpans (now (spans .entry))) (now (spans .entry)) ⌝ }
     ensures { λ r. ⌜ now (rings .exit) ≡ ifDone (configured (now (text .entry)) .fault) (Start.freshRings (now (rings .entry))) (now (rings .entry)) ⌝ }
     ensures { λ r. ⌜ now (arrivals .exit) ≡ ifDone (configured (now (text .entry)) .fault) (Start.freshArrivals (now (arrivals .entry))) (now (arrivals .entry)) ⌝ }
+    ensures { λ r. ⌜ planAt (now (plan .exit)) ≡ ifDone (configured (now (text .entry)) .fault) (configured (now (text .entry)) .plan) (planOf plan) ⌝ }
 {
     let made = configure(text);
+    let answer = Started {
+        line: made.line,
+        fault: made.fault,
+    };
     if 0 < made.fault {
-        return Configured {
-            line: made.line,
-            fault: made.fault,
-            plan: running,
-        };
+        return answer;
     }
+    let new = made.plan;
+    store(plan, new);
     empty_links(links);
     empty_marks(marks);
     fresh(spans, rings);
     arrivals[0] = 0;
-    made
+    answer
 }

@@ -1,11 +1,11 @@
 // Which timers run, for the host to read after a call.
 use lookup::is_link;
 use lookup::rank_by;
-use plan::data::Plan;
-use plan::find::find;
+use planwords::find::find;
 use rows::flag::flag;
 use rows::link::LinkRecord;
 use rows::link::load_link;
+ghost use Rattle.planwords.specs.Words.{planOf};
 ghost use mathlib.Core.Path.{_≡_};
 ghost use Rattle.timers.specs.Timers as Timers;
 
@@ -23,8 +23,8 @@ fn runs_on(known: LinkRecord, timer: u8) -> bool
 }
 
 // Whether T1, T2, T3 or T4 of a link runs.
-pub fn link_timer(plan: Plan, links: &[u32; 256], link: u8, timer: u8) -> bool
-    ensures { λ r. ⌜ r ≡ Timers.linkTimer plan (now (links .entry)) link timer ⌝ }
+pub fn link_timer(plan: &[u16; 1024], links: &[u32; 256], link: u8, timer: u8) -> bool
+    ensures { λ r. ⌜ r ≡ Timers.linkTimer (planOf plan) (now (links .entry)) link timer ⌝ }
 {
     if !is_link(plan, link) {
         return false;
@@ -33,10 +33,10 @@ pub fn link_timer(plan: Plan, links: &[u32; 256], link: u8, timer: u8) -> bool
 }
 
 // Whether T6 or T8 of a destination runs.
-pub fn destination_timer(plan: Plan, marks: &[u32; 512], x: u16, timer: u8) -> bool
-    ensures { λ r. ⌜ r ≡ Timers.destinationTimer plan (now (marks .entry)) x timer ⌝ }
+pub fn destination_timer(plan: &[u16; 1024], marks: &[u32; 512], x: u16, timer: u8) -> bool
+    ensures { λ r. ⌜ r ≡ Timers.destinationTimer (planOf plan) (now (marks .entry)) x timer ⌝ }
 {
-    if !plan.given {
+    if !planwords::read::given(plan) {
         return false;
     }
     let found = find(plan, x);
@@ -51,10 +51,10 @@ pub fn destination_timer(plan: Plan, marks: &[u32; 512], x: u16, timer: u8) -> b
 }
 
 // Whether T10 of the route to a destination by a set runs.
-pub fn route_timer(plan: Plan, marks: &[u32; 512], x: u16, set: u8) -> bool
-    ensures { λ r. ⌜ r ≡ Timers.routeTimer plan (now (marks .entry)) x set ⌝ }
+pub fn route_timer(plan: &[u16; 1024], marks: &[u32; 512], x: u16, set: u8) -> bool
+    ensures { λ r. ⌜ r ≡ Timers.routeTimer (planOf plan) (now (marks .entry)) x set ⌝ }
 {
-    if !plan.given {
+    if !planwords::read::given(plan) {
         return false;
     }
     let found = find(plan, x);

@@ -1,11 +1,11 @@
 // A waiting link: T3, T4 and the answer to its CBD.
 use lookup::is_link;
 use lookup::link_named;
-use plan::data::Plan;
 use rows::link::LinkRecord;
 use rows::link::load_link;
 use rows::link::store_link;
 ghost use mathlib.Core.Path.{_≡_};
+ghost use Rattle.planwords.specs.Words.{planOf};
 ghost use Rattle.waiting.specs.Wait as Wait;
 
 // The state with what is left to wait for: a waiting link opens with nothing left.
@@ -58,8 +58,8 @@ fn stopped(known: LinkRecord, timer: u8) -> LinkRecord
 }
 
 // The reply to an expiry.
-fn wait_reply(plan: Plan, links: &[u32; 256], link: u8, timer: u8) -> u8
-    ensures { λ r. ⌜ r ≡ Wait.replyOf plan (now (links .entry)) link timer ⌝ }
+fn wait_reply(plan: &[u16; 1024], links: &[u32; 256], link: u8, timer: u8) -> u8
+    ensures { λ r. ⌜ r ≡ Wait.replyOf (planOf plan) (now (links .entry)) link timer ⌝ }
 {
     if 32 <= link {
         return 1;
@@ -81,9 +81,9 @@ fn wait_reply(plan: Plan, links: &[u32; 256], link: u8, timer: u8) -> u8
 }
 
 // T3 or T4 of a link expires.
-pub fn expire_wait(plan: Plan, links: &mut [u32; 256], link: u8, timer: u8) -> u8
-    ensures { λ r. ⌜ r ≡ Wait.replyOf plan (now (links .entry)) link timer ⌝ }
-    ensures { λ r. ⌜ now (links .exit) ≡ Wait.expired plan (now (links .entry)) link timer ⌝ }
+pub fn expire_wait(plan: &[u16; 1024], links: &mut [u32; 256], link: u8, timer: u8) -> u8
+    ensures { λ r. ⌜ r ≡ Wait.replyOf (planOf plan) (now (links .entry)) link timer ⌝ }
+    ensures { λ r. ⌜ now (links .exit) ≡ Wait.expired (planOf plan) (now (links .entry)) link timer ⌝ }
 {
     let reply = wait_reply(plan, links, link, timer);
     if 0 < reply {
@@ -95,8 +95,8 @@ pub fn expire_wait(plan: Plan, links: &mut [u32; 256], link: u8, timer: u8) -> u
 }
 
 // Whether a CBA answers an unanswered CBD.
-pub fn answers(plan: Plan, links: &[u32; 256], point: u16, slc: u8, code: u8) -> bool
-    ensures { λ r. ⌜ r ≡ Wait.answers plan (now (links .entry)) point slc code ⌝ }
+pub fn answers(plan: &[u16; 1024], links: &[u32; 256], point: u16, slc: u8, code: u8) -> bool
+    ensures { λ r. ⌜ r ≡ Wait.answers (planOf plan) (now (links .entry)) point slc code ⌝ }
 {
     let link = link_named(plan, point, slc);
     if 32 <= link {
@@ -107,8 +107,8 @@ pub fn answers(plan: Plan, links: &[u32; 256], point: u16, slc: u8, code: u8) ->
 }
 
 // The CBD is answered.
-pub fn answer_wait(plan: Plan, links: &mut [u32; 256], point: u16, slc: u8)
-    ensures { λ r. ⌜ now (links .exit) ≡ Wait.answered plan (now (links .entry)) point slc ⌝ }
+pub fn answer_wait(plan: &[u16; 1024], links: &mut [u32; 256], point: u16, slc: u8)
+    ensures { λ r. ⌜ now (links .exit) ≡ Wait.answered (planOf plan) (now (links .entry)) point slc ⌝ }
 {
     let link = link_named(plan, point, slc);
     let known = load_link(links, link);

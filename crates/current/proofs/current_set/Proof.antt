@@ -1,5 +1,6 @@
 -- `current::current_set` meets its contract: the set of the link that the rule yields.
 -- Assumes nothing.
+use Rattle.planwords.specs.Words.{planAt}
 use Rattle.lookup.specs.Lookup.{setOf}
 use Rattle.current.specs.Current.{currentSet}
 use borrow.Author.Needs.{needs}
@@ -18,7 +19,7 @@ returns : tie.Need-returns
 unfolding currentSet
 returns c =
     let a = c .before .before .args in
-    c .set-of .ensures ∙ ap (setOf (a .plan)) (c .before .current .ensures)
+    c .set-of .ensures ∙ ap (setOf (planAt (a .plan .now))) (c .before .current .ensures)
 
 pub current-set-spec : {M : Type 1} → statement M
 current-set-spec = tie.close (tie.spec current-requires set-of-requires returns)

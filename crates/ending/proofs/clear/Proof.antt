@@ -1,6 +1,7 @@
 -- `ending::clear` meets its contract: the first are retired, the next dropped, and the rest moved.
 -- Assumes nothing.
 use borrow.Author.Needs.{needs}
+use Rattle.planwords.specs.Words.{planAt}
 use Rattle.queueing.specs.Leave.{state}
 use Rattle.queueing.proofs.States.{all-same}
 use Rattle.ending.proofs.Ending.{clear-done}
@@ -32,7 +33,7 @@ returns c =
     let a = at-retire .before .before .before .before .args in
     let now = state (a .spans .now) (a .rings .now) (a .reports .now) (a .told) in
     let done =
-    clear-done (a .plan) (a .links .now) (a .marks .now) (a .rows .now) (a .link) (a .parts) now (r .last .0)
+    clear-done (planAt (a .plan .now)) (a .links .now) (a .marks .now) (a .rows .now) (a .link) (a .parts) now (r .last .0)
     (r .last .1 .0)
     (r .ensures)
     (d .last .0)

@@ -2,6 +2,7 @@
 -- Assumes nothing.
 use borrow.Author.Needs.{needs}
 use mathlib.Core.Path.{refl}
+use Rattle.planwords.specs.Words.{planAt}
 use Rattle.queueing.specs.Leave.{state}
 use Rattle.ending.proofs.Ending.{link-out, end-done}
 use Rattle.ending.proofs.end_service.Statement.{statement}
@@ -46,7 +47,7 @@ returns c =
     link-out (a .links .now) (a .link) (l .result) (l .ensures) (o .result) (o .ensures) after (s .ensures)
     in
     let done =
-    end-done (a .plan) (a .links .now) (a .marks .now) (a .rows .now) (a .link) (a .parts) now after out (b .result)
+    end-done (planAt (a .plan .now)) (a .links .now) (a .marks .now) (a .rows .now) (a .link) (a .parts) now after out (b .result)
     (b .ensures)
     (areas .0)
     (areas .1 .0)

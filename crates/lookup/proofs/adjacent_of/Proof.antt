@@ -12,22 +12,14 @@ returns : tie.Need-returns
 unfolding adjacentOf
 returns c = simp (le-ltb _ _ (rw (c .before .set-of .ensures) at (c .if1 .taken)))
 
-cast-those : tie.Need-cast-those
-cast-those c = search needs
-
-mul-those : tie.Need-mul-those
-mul-those c = search needs
-
-array-copy-out-those : tie.Need-array-copy-out-those
-array-copy-out-those c = search needs
+set-adjacent-requires : tie.Need-set-adjacent-requires
+set-adjacent-requires c κs = search needs
 
 returns-2 : tie.Need-returns-2
 unfolding adjacentOf
 returns-2 c =
-    let of = c .before .before .before .set-of .ensures in
-    simp (of, lt-ltb _ _ (rw of at (c .before .before .if1 .left)))
+    let of = c .before .before .set-of .ensures in
+    simp (c .set-adjacent .ensures, of, lt-ltb _ _ (rw of at (c .before .if1 .left)))
 
 pub adjacent-of-spec : {M : Type 1} → statement M
-adjacent-of-spec =
-    tie.close
-    (tie.spec set-of-requires returns cast-those mul-those array-copy-out-those returns-2)
+adjacent-of-spec = tie.close (tie.spec set-of-requires returns set-adjacent-requires returns-2)

@@ -12,33 +12,14 @@ returns : tie.Need-returns
 unfolding linkNamed
 returns c = simp (le-ltb _ _ (rw (c .before .set-to .ensures) at (c .if1 .taken)))
 
-cast-link-with : tie.Need-cast-link-with
-cast-link-with c = search needs
-
-mul-link-with : tie.Need-mul-link-with
-mul-link-with c = search needs
-
-array-copy-out-link-with : tie.Need-array-copy-out-link-with
-array-copy-out-link-with c = search needs
-
 link-with-requires : tie.Need-link-with-requires
 link-with-requires c κs = search needs
 
 returns-2 : tie.Need-returns-2
 unfolding linkNamed
 returns-2 c =
-    let test = c .before .before .before in
-    let to = test .before .set-to .ensures in
-    simp (c .link-with .ensures, to, lt-ltb _ _ (rw to at (test .if1 .left)))
+    let to = c .before .before .set-to .ensures in
+    simp (c .link-with .ensures, to, lt-ltb _ _ (rw to at (c .before .if1 .left)))
 
 pub link-named-spec : {M : Type 1} → statement M
-link-named-spec =
-    tie.close
-    (tie.spec
-    set-to-requires
-    returns
-    cast-link-with
-    mul-link-with
-    array-copy-out-link-with
-    link-with-requires
-    returns-2)
+link-named-spec = tie.close (tie.spec set-to-requires returns link-with-requires returns-2)

@@ -1,6 +1,9 @@
 -- `lookup::rank_by` meets its contract. Assumes nothing.
 use borrow.Author.Needs.{needs}
 use borrow.Author.Tests.{lt-ltb, le-ltb}
+use mathlib.Core.Path.{_∙_}
+use Rattle.planwords.specs.Words.{planAt}
+use Rattle.planwords.proofs.Said.{routes-within}
 use Rattle.lookup.specs.Lookup.{rankBy}
 use Rattle.lookup.proofs.rank_by.Statement.{statement}
 use Rattle.lookup.proofs.rank_by.Tie as tie
@@ -9,19 +12,20 @@ returns : tie.Need-returns
 unfolding rankBy
 returns c = simp (le-ltb _ _ (c .if1 .taken))
 
-mul-there : tie.Need-mul-there
-mul-there c = search needs
-
-array-copy-out-there : tie.Need-array-copy-out-there
-array-copy-out-there c = search needs
+destination-routes-requires : tie.Need-destination-routes-requires
+destination-routes-requires c κs = search needs
 
 rank-among-requires : tie.Need-rank-among-requires
 rank-among-requires c κs = search needs
 
 returns-2 : tie.Need-returns-2
 unfolding rankBy
-returns-2 c = simp (c .rank-among .ensures, lt-ltb _ _ (c .before .before .before .before .if1 .left))
+returns-2 c =
+    let a = c .before .before .before .args in
+    let within = c .before .before .if1 .left in
+    simp
+    (c .rank-among .ensures, c .before .destination-routes .ensures ∙ routes-within (planAt (a .plan .now)) (a .destination) within, lt-ltb _ _ within)
 
 pub rank-by-spec : {M : Type 1} → statement M
 rank-by-spec =
-    tie.close (tie.spec returns mul-there array-copy-out-there rank-among-requires returns-2)
+    tie.close (tie.spec returns destination-routes-requires rank-among-requires returns-2)

@@ -9,15 +9,12 @@ returns : tie.Need-returns
 unfolding setOf
 returns c = simp (le-ltb _ _ (c .if1 .taken))
 
-mul-there : tie.Need-mul-there
-mul-there c = search needs
-
-array-copy-out-there : tie.Need-array-copy-out-there
-array-copy-out-there c = search needs
+link-set-requires : tie.Need-link-set-requires
+link-set-requires c κs = search needs
 
 returns-2 : tie.Need-returns-2
 unfolding setOf
-returns-2 c = simp (lt-ltb _ _ (c .before .before .if1 .left))
+returns-2 c = simp (c .link-set .ensures, lt-ltb _ _ (c .before .if1 .left))
 
 pub set-of-spec : {M : Type 1} → statement M
-set-of-spec = tie.close (tie.spec returns mul-there array-copy-out-there returns-2)
+set-of-spec = tie.close (tie.spec returns link-set-requires returns-2)

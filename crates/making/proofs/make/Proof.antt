@@ -1,5 +1,6 @@
 -- `making::make` meets its contract: with no path nothing is made, with one the message is queued there.
 -- Assumes nothing.
+use Rattle.planwords.specs.Words.{planAt}
 use Rattle.making.proofs.Making.{not-made, is-queued, path-is}
 use borrow.Author.Needs.{needs}
 use mathlib.Core.Path.{_≡_, refl, sym, ap, _∙_}
@@ -20,8 +21,8 @@ returns c =
     let way = c .before .way in
     let need = c .before .before .for-management in
     let a = c .before .before .before .args in
-    not-made (a .plan) (a .links .now) (a .marks .now) (a .draft) (a .spans .now) (a .rings .now) (a .rows .now) (a .arrivals .now)
-    (way .result) (path-is (a .plan) (a .links .now) (a .marks .now) (a .draft) (need .result) (need .ensures) (way .result) (way .ensures))
+    not-made (planAt (a .plan .now)) (a .links .now) (a .marks .now) (a .draft) (a .spans .now) (a .rings .now) (a .rows .now) (a .arrivals .now)
+    (way .result) (path-is (planAt (a .plan .now)) (a .links .now) (a .marks .now) (a .draft) (need .result) (need .ensures) (way .result) (way .ensures))
     (c .if1 .taken)
 
 queue-management-requires : tie.Need-queue-management-requires
@@ -34,8 +35,8 @@ returns-2 c =
     let way = at-way .way in
     let need = at-way .before .for-management in
     let a = at-way .before .before .args in
-    is-queued (a .plan) (a .links .now) (a .marks .now) (a .draft) (a .spans .now) (a .rings .now) (a .rows .now) (a .arrivals .now)
-    (way .result) (path-is (a .plan) (a .links .now) (a .marks .now) (a .draft) (need .result) (need .ensures) (way .result) (way .ensures))
+    is-queued (planAt (a .plan .now)) (a .links .now) (a .marks .now) (a .draft) (a .spans .now) (a .rings .now) (a .rows .now) (a .arrivals .now)
+    (way .result) (path-is (planAt (a .plan .now)) (a .links .now) (a .marks .now) (a .draft) (need .result) (need .ensures) (way .result) (way .ensures))
     (omega (arith, at-if .if1 .left)) (c .queue-management .result) (c .queue-management .last .0) (c .queue-management .last .1 .0) (c .queue-management .last .1 .1 .0) (c .queue-management .last .1 .1 .1 .0) (c .queue-management .ensures)
 
 pub make-spec : {M : Type 1} → statement M

@@ -3,6 +3,7 @@
 use borrow.Author.Needs.{needs}
 use borrow.Author.Tests.{not-true, not-false}
 use mathlib.Core.List.{[]}
+use Rattle.planwords.specs.Words.{planAt}
 use Rattle.replies.specs.Areas.{areas}
 use Rattle.managing.proofs.Answering.{not-counted, counted}
 use Rattle.managing.proofs.answer_by.Statement.{statement}
@@ -23,7 +24,7 @@ returns c =
     let take = test .before .take-message in
     let said = test .before .before .before .answers in
     let a = test .before .before .before .before .before .args in
-    not-counted (a .plan) (a .arriving) (a .fsn) (a .point) (a .slc) (a .code) (areas (a .links .now) [] [] [] [] [] [])
+    not-counted (planAt (a .plan .now)) (a .arriving) (a .fsn) (a .point) (a .slc) (a .code) (areas (a .links .now) [] [] [] [] [] [])
     (said .result) (said .ensures) (take .last .0) (take .ensures) (not-true (said .result) (test .if1 .taken))
     (c .plain .result) (c .plain .ensures)
 
@@ -40,7 +41,7 @@ returns-2 c =
     let take = test .before .take-message in
     let said = test .before .before .before .answers in
     let a = test .before .before .before .before .before .args in
-    counted (a .plan) (a .arriving) (a .fsn) (a .point) (a .slc) (a .code) (areas (a .links .now) [] [] [] [] [] [])
+    counted (planAt (a .plan .now)) (a .arriving) (a .fsn) (a .point) (a .slc) (a .code) (areas (a .links .now) [] [] [] [] [] [])
     (said .result) (said .ensures) (take .last .0) (take .ensures) (not-false (said .result) (test .if1 .left))
     (opens .last .1 .0) (opens .ensures) (c .done .result) (c .done .ensures)
 

@@ -2,6 +2,7 @@
 -- Assumes nothing.
 use borrow.Author.Needs.{needs}
 use mathlib.Core.Path.{_≡_, sym, ap, _∙_}
+use Rattle.planwords.specs.Words.{planAt}
 use Rattle.network.specs.declared.management.Message.{Message}
 use Rattle.managing.specs.Managed.{asked}
 use Rattle.managing.proofs.ask.Statement.{statement}
@@ -64,12 +65,12 @@ nothing-requires-3 c κs = search needs
 -- what is asked by a message of a variant
 by-variant : (c : tie.Start) (m : Message) → c .args .order .message ≡ m
     → let a = c .args in
-    asked (a .plan) (a .links .now) (a .marks .now) (a .arriving) (a .fsn) (a .order .point) (a .order .slc) m
-    ≡ asked (a .plan) (a .links .now) (a .marks .now) (a .arriving) (a .fsn) (a .order .point) (a .order .slc) (a .order .message)
+    asked (planAt (a .plan .now)) (a .links .now) (a .marks .now) (a .arriving) (a .fsn) (a .order .point) (a .order .slc) m
+    ≡ asked (planAt (a .plan .now)) (a .links .now) (a .marks .now) (a .arriving) (a .fsn) (a .order .point) (a .order .slc) (a .order .message)
 by-variant c m e =
     let a = c .args in
     ap
-    (λ (x : Message). asked (a .plan) (a .links .now) (a .marks .now) (a .arriving) (a .fsn) (a .order .point) (a .order .slc) x)
+    (λ (x : Message). asked (planAt (a .plan .now)) (a .links .now) (a .marks .now) (a .arriving) (a .fsn) (a .order .point) (a .order .slc) x)
     (sym e)
 
 returns : tie.Need-returns

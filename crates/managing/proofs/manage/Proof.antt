@@ -1,6 +1,7 @@
 -- `managing::manage` meets its contract: in each arm the message is that arm's, and what is called leaves what it is to leave.
 -- Assumes nothing.
 use borrow.Author.Needs.{needs}
+use Rattle.planwords.specs.Words.{planAt}
 use Rattle.network.specs.declared.management.Message.the-variants.{CBA, TFP, TFA}
 use Rattle.replies.specs.Areas.{Areas, areas}
 use Rattle.managing.specs.Managed.{managed}
@@ -46,10 +47,10 @@ returns c =
     let read = c .before .before .before in
     let start = read .before .before .before in
     let a = start .args in
-    as-variant (a .plan) (a .arriving) (a .fsn) (a .order .point) (a .order .slc) (entry start) (a .order .message)
+    as-variant (planAt (a .plan .now)) (a .arriving) (a .fsn) (a .order .point) (a .order .slc) (entry start) (a .order .message)
     (CBA (read .message .given .0 .0)) (read .message .given .1) (out .result)
     (areas (out .last .1 .0) (a .marks .now) (a .spans .now) (a .rings .now) (a .rows .now) (a .arrivals .now) (a .reports .now))
-    (in-all (a .plan) (a .arriving) (a .fsn) (a .order .point) (a .order .slc) (read .message .given .0 .0)
+    (in-all (planAt (a .plan .now)) (a .arriving) (a .fsn) (a .order .point) (a .order .slc) (read .message .given .0 .0)
     (entry start) (out .result) (out .last .1 .0) (out .ensures))
 
 same-length : tie.Need-same-length
@@ -63,7 +64,7 @@ returns-2 c =
     let start = read .before .before .before in
     let a = start .args in
     let now = out .last .1 in
-    as-variant (a .plan) (a .arriving) (a .fsn) (a .order .point) (a .order .slc) (entry start) (a .order .message)
+    as-variant (planAt (a .plan .now)) (a .arriving) (a .fsn) (a .order .point) (a .order .slc) (entry start) (a .order .message)
     (TFP (read .message2 .given .0 .0)) (read .message2 .given .1) (out .result)
     (areas (now .0) (now .1 .0) (a .spans .now) (a .rings .now) (a .rows .now) (a .arrivals .now)
     (now .1 .1 .1 .1 .1 .1 .1 .1 .1 .1 .1 .0))
@@ -80,7 +81,7 @@ returns-3 c =
     let start = read .before .before .before in
     let a = start .args in
     let now = out .last .1 in
-    as-variant (a .plan) (a .arriving) (a .fsn) (a .order .point) (a .order .slc) (entry start) (a .order .message)
+    as-variant (planAt (a .plan .now)) (a .arriving) (a .fsn) (a .order .point) (a .order .slc) (entry start) (a .order .message)
     (TFA (read .message3 .given .0 .0)) (read .message3 .given .1) (out .result)
     (areas (now .0) (now .1 .0) (a .spans .now) (a .rings .now) (a .rows .now) (a .arrivals .now)
     (now .1 .1 .1 .1 .1 .1 .1 .1 .1 .1 .1 .0))
@@ -97,7 +98,7 @@ returns-4 c =
     let arm = c .before .before .before .before .before .before .before .before .before .before .before .before .before in
     let start = arm .before .before in
     let a = start .args in
-    as-step (a .plan) (a .arriving) (a .fsn) (a .order .point) (a .order .slc) (entry start) (a .order .message)
+    as-step (planAt (a .plan .now)) (a .arriving) (a .fsn) (a .order .point) (a .order .slc) (entry start) (a .order .message)
     (arm .match .keys4) (said .result) (said .ensures) (out .result)
     (areas (now .0) (a .marks .now) (now .1 .1 .0) (now .1 .1 .1 .0) (now .1 .1 .1 .1 .0) (now .1 .1 .1 .1 .1 .0)
     (now .1 .1 .1 .1 .1 .1 .1 .1 .1 .0))

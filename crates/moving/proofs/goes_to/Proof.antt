@@ -2,6 +2,7 @@
 -- Assumes nothing.
 use borrow.Author.Needs.{needs}
 use mathlib.Core.Path.{_∙_}
+use Rattle.planwords.specs.Words.{planAt}
 use Rattle.moving.proofs.Moving.{users-need, managements-need, way-goes}
 use Rattle.moving.proofs.goes_to.Statement.{statement}
 use Rattle.moving.proofs.goes_to.Tie as tie
@@ -33,7 +34,7 @@ returns c =
     let at-if = c .before .before in
     let l = at-if .before .before .before .load-slot in
     let a = at-if .before .before .before .before .args in
-    way-goes (a .plan) (a .links .now) (a .marks .now) (a .rows .now) (a .slot) (l .result) (l .ensures) (need .result)
+    way-goes (planAt (a .plan .now)) (a .links .now) (a .marks .now) (a .rows .now) (a .slot) (l .result) (l .ensures) (need .result)
     (need .ensures ∙ users-need (a .slot) (at-if .if1 .taken)) (c .way .result) (c .way .ensures)
 
 returns-2 : tie.Need-returns-2
@@ -42,7 +43,7 @@ returns-2 c =
     let at-if = c .before .before in
     let l = at-if .before .before .before .load-slot in
     let a = at-if .before .before .before .before .args in
-    way-goes (a .plan) (a .links .now) (a .marks .now) (a .rows .now) (a .slot) (l .result) (l .ensures) (need .result)
+    way-goes (planAt (a .plan .now)) (a .links .now) (a .marks .now) (a .rows .now) (a .slot) (l .result) (l .ensures) (need .result)
     (need .ensures ∙ managements-need (a .slot) (at-if .if1 .left)) (c .way2 .result) (c .way2 .ensures)
 
 pub goes-to-spec : {M : Type 1} → statement M

@@ -3,6 +3,7 @@
 use borrow.Author.Needs.{needs}
 use borrow.Author.Tests.{not-true, not-false}
 use mathlib.Core.Path.{refl}
+use Rattle.planwords.specs.Words.{planAt}
 use Rattle.queueing.specs.Leave.{state}
 use Rattle.queueing.proofs.States.{all-same}
 use Rattle.moving.proofs.Moving.{none-moved, head-moved, head-dropped}
@@ -18,7 +19,7 @@ returns c =
     let a = c .before .before .before .before .before .before .args in
     let now = state (a .spans .now) (a .rings .now) (a .reports .now) (a .told) in
     let done =
-    none-moved (a .plan) (a .links .now) (a .marks .now) (a .rows .now) now (a .ring) (h .result) (h .ensures)
+    none-moved (planAt (a .plan .now)) (a .links .now) (a .marks .now) (a .rows .now) now (a .ring) (h .result) (h .ensures)
     (not-true (h .result .found) (c .if1 .taken))
     in
     all-same (a .spans .now) (a .rings .now) (a .reports .now) (a .told) _ _ done (refl, (refl, (refl, refl)))
@@ -42,7 +43,7 @@ returns-2 c =
     let a = at-found .before .before .before .before .before .before .args in
     let now = state (a .spans .now) (a .rings .now) (a .reports .now) (a .told) in
     let done =
-    head-dropped (a .plan) (a .links .now) (a .marks .now) (a .rows .now) now (a .ring) (h .result) (h .ensures)
+    head-dropped (planAt (a .plan .now)) (a .links .now) (a .marks .now) (a .rows .now) now (a .ring) (h .result) (h .ensures)
     (not-false (h .result .found) (at-found .if1 .left)) (g .result) (g .ensures) (at-if .if2 .taken)
     in
     all-same (d .last .0) (d .last .1 .0) (d .last .1 .1 .1 .1 .1 .0) (d .result) _ _ done (d .ensures)
@@ -60,7 +61,7 @@ returns-3 c =
     let a = at-found .before .before .before .before .before .before .args in
     let now = state (a .spans .now) (a .rings .now) (a .reports .now) (a .told) in
     let done =
-    head-moved (a .plan) (a .links .now) (a .marks .now) (a .rows .now) now (a .ring) (h .result) (h .ensures)
+    head-moved (planAt (a .plan .now)) (a .links .now) (a .marks .now) (a .rows .now) now (a .ring) (h .result) (h .ensures)
     (not-false (h .result .found) (at-found .if1 .left)) (g .result) (g .ensures) (at-if .if2 .left)
     in
     all-same (m .last .0) (m .last .1 .0) (a .reports .now) (a .told) _ _ done (refl, (refl, m .ensures .1))

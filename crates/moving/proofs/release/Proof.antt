@@ -5,6 +5,7 @@ use native.Mathlib.Omega.{arith}
 use mathlib.Core.Path.{_≡_, refl, ap, _∙_}
 use Prim.Native.Nat.{ℕ}
 use lib.ListN.{length}
+use Rattle.planwords.specs.Words.{planAt}
 use Rattle.queueing.specs.Head.{repeat}
 use Rattle.queueing.specs.Leave.{state}
 use Rattle.queueing.proofs.Turns.{turn-done, turns-done}
@@ -16,8 +17,8 @@ use Rattle.moving.proofs.release.Tie as tie
 abbrev Inv-loop : tie.InvT-loop
 Inv-loop plan links marks spans₀ rings₀ rows point reports₀ told left₀ reported₀ spans rings reports left reported =
     (length reports ≡ length reports₀)
-    × (repeat (releasedOne plan links marks rows point) left (state spans rings reports reported)
-    ≡ released plan links marks rows point (state spans₀ rings₀ reports₀ told))
+    × (repeat (releasedOne (planAt plan) links marks rows point) left (state spans rings reports reported)
+    ≡ released (planAt plan) links marks rows point (state spans₀ rings₀ reports₀ told))
 
 abbrev μ-loop : tie.MeasureT-loop
 μ-loop plan links marks spans₀ rings₀ rows point reports₀ told left₀ reported₀ spans rings reports left reported = left
@@ -29,7 +30,7 @@ loop-holds : tie.Need-loop-holds Inv-loop μ-loop
 unfolding released
 loop-holds c =
     let a = c .before .before .before .args in
-    let step = releasedOne (a .plan) (a .links .now) (a .marks .now) (a .rows .now) (a .point) in
+    let step = releasedOne (planAt (a .plan .now)) (a .links .now) (a .marks .now) (a .rows .now) (a .point) in
     let start = state (a .spans .now) (a .rings .now) (a .reports .now) (a .told) in
     (refl, ap (λ (n : ℕ). repeat step n start) (c .count .ensures))
 
@@ -48,10 +49,10 @@ loop-again c =
     let l = at-turn .before .loop in
     let a = at-turn .before .before .before .before .before .args in
     let m = c .before .before .release-one in
-    let step = releasedOne (a .plan) (a .links .now) (a .marks .now) (a .rows .now) (a .point) in
+    let step = releasedOne (planAt (a .plan .now)) (a .links .now) (a .marks .now) (a .rows .now) (a .point) in
     let now = state (l .spans) (l .rings) (l .reports) (l .reported) in
     let start = state (a .spans .now) (a .rings .now) (a .reports .now) (a .told) in
-    let whole = released (a .plan) (a .links .now) (a .marks .now) (a .rows .now) (a .point) start in
+    let whole = released (planAt (a .plan .now)) (a .links .now) (a .marks .now) (a .rows .now) (a .point) start in
     let areas = m .last .1 .1 .1 in
     let next = all-whole (areas .0) (areas .1 .0) (areas .1 .1 .1 .1 .0) (m .result) (step now) (m .ensures) in (
       c .before .reports .given ∙ l .inv .0,
@@ -65,10 +66,10 @@ returns : tie.Need-returns Inv-loop μ-loop
 returns c =
     let l = c .before .loop in
     let a = c .before .before .before .before .before .args in
-    let step = releasedOne (a .plan) (a .links .now) (a .marks .now) (a .rows .now) (a .point) in
+    let step = releasedOne (planAt (a .plan .now)) (a .links .now) (a .marks .now) (a .rows .now) (a .point) in
     let now = state (l .spans) (l .rings) (l .reports) (l .reported) in
     let start = state (a .spans .now) (a .rings .now) (a .reports .now) (a .told) in
-    let whole = released (a .plan) (a .links .now) (a .marks .now) (a .rows .now) (a .point) start in
+    let whole = released (planAt (a .plan .now)) (a .links .now) (a .marks .now) (a .rows .now) (a .point) start in
     all-same (l .spans) (l .rings) (l .reports) (l .reported) now whole
     (turns-done step (l .left) now whole (l .inv .1) (omega arith))
     (refl, (refl, (refl, refl)))

@@ -2,6 +2,7 @@
 -- Assumes nothing.
 use borrow.Author.Needs.{needs}
 use mathlib.Core.Path.{refl}
+use Rattle.planwords.specs.Words.{planAt}
 use Rattle.queueing.specs.Leave.{state}
 use Rattle.queueing.proofs.States.{all-same}
 use Rattle.moving.proofs.Moving.{this-released, other-kept}
@@ -29,7 +30,7 @@ returns c =
     let a = at-if .before .before .before .before .before .before .before .args in
     let now = state (a .spans .now) (a .rings .now) (a .reports .now) (a .told) in
     let done =
-    this-released (a .plan) (a .links .now) (a .marks .now) (a .rows .now) now (a .point) (h .result) (h .ensures)
+    this-released (planAt (a .plan .now)) (a .links .now) (a .marks .now) (a .rows .now) now (a .point) (h .result) (h .ensures)
     (l .result) (l .ensures) (at-if .if1 .taken)
     in
     all-same (m .last .1 .1 .1 .0) (m .last .1 .1 .1 .1 .0) (m .last .1 .1 .1 .1 .1 .1 .1 .0) (m .result) _ _ done
@@ -47,7 +48,7 @@ returns-2 c =
     let a = at-if .before .before .before .before .before .before .before .args in
     let now = state (a .spans .now) (a .rings .now) (a .reports .now) (a .told) in
     let done =
-    other-kept (a .plan) (a .links .now) (a .marks .now) (a .rows .now) now (a .point) (h .result) (h .ensures)
+    other-kept (planAt (a .plan .now)) (a .links .now) (a .marks .now) (a .rows .now) now (a .point) (h .result) (h .ensures)
     (l .result) (l .ensures) (at-if .if1 .left)
     in
     all-same (m .last .0) (m .last .1 .0) (a .reports .now) (a .told) _ _ done (refl, (refl, m .ensures .1))

@@ -5,6 +5,7 @@ use mathlib.Core.Path.{_≡_, refl}
 use mathlib.Core.List.{List}
 use Prim.Native.Nat.{ℕ}
 use lib.ListN.{length}
+use Rattle.planwords.specs.Words.{planAt}
 use Rattle.discrimination.specs.declared.Came.{Came}
 use Rattle.discrimination.specs.declared.Came.the-variants.{Malformed, Foreign, Delivered, Managed, Passed}
 use Rattle.replies.specs.declared.Answer.{Answer}
@@ -37,7 +38,7 @@ returns c =
     let at-reply = c .before .before in
     let start = at-reply .before .before .before .before .before in
     let a = start .args in
-    message-refused (a .plan) (a .link) (a .fsn) (a .octets .now) (a .message .now) (before start) (at-reply .receive-reply .result)
+    message-refused (planAt (a .plan .now)) (a .link) (a .fsn) (a .octets .now) (a .message .now) (before start) (at-reply .receive-reply .result)
     (at-reply .receive-reply .ensures) (c .before .if1 .taken) (c .plain .result) (c .plain .ensures)
 
 from-link-requires : tie.Need-from-link-requires
@@ -81,14 +82,14 @@ start-of c = c .before .before .before .before .before .before .before
 told-as : (c : tie.After-from-link) (kind : Came) → c .from-link .result ≡ kind → (answer : Answer) (after : Areas) (octets : List ℕ)
     → let start = start-of c in
     let a = start .args in
-    Leaves (receivedBy (a .plan) (a .link) (a .fsn) (length (a .message .now)) kind (before start)) answer after
-    → octets ≡ octetsBy (a .plan) kind (before start) (a .octets .now) (a .message .now)
-    → ReceiveLeaves (a .plan) (a .link) (a .fsn) (a .octets .now) (a .message .now) (before start) answer after octets
+    Leaves (receivedBy (planAt (a .plan .now)) (a .link) (a .fsn) (length (a .message .now)) kind (before start)) answer after
+    → octets ≡ octetsBy (planAt (a .plan .now)) kind (before start) (a .octets .now) (a .message .now)
+    → ReceiveLeaves (planAt (a .plan .now)) (a .link) (a .fsn) (a .octets .now) (a .message .now) (before start) answer after octets
 told-as c kind so =
     let reply = c .before .before .receive-reply in
     let start = start-of c in
     let a = start .args in
-    by-kind (a .plan) (a .link) (a .fsn) (a .octets .now) (a .message .now) (before start) (reply .result) (reply .ensures)
+    by-kind (planAt (a .plan .now)) (a .link) (a .fsn) (a .octets .now) (a .message .now) (before start) (reply .result) (reply .ensures)
     (c .before .if1 .left) (c .from-link .result) (c .from-link .ensures) kind so
 
 -- for one that is taken, with the answer given
@@ -96,16 +97,16 @@ taken-as : (c : tie.After-from-link) (kind : Came) → c .from-link .result ≡ 
     → let start = start-of c in
     let a = start .args in
     outcome gives (withTaken (a .link) (a .fsn) (before start))
-    ≡ receivedBy (a .plan) (a .link) (a .fsn) (length (a .message .now)) kind (before start)
-    → a .octets .now ≡ octetsBy (a .plan) kind (before start) (a .octets .now) (a .message .now)
+    ≡ receivedBy (planAt (a .plan .now)) (a .link) (a .fsn) (length (a .message .now)) kind (before start)
+    → a .octets .now ≡ octetsBy (planAt (a .plan .now)) kind (before start) (a .octets .now) (a .message .now)
     → (answer : Answer) (links : List ℕ) → (answer ≡ gives) × (links ≡ taken (a .links .now) (a .link) (a .fsn))
-    → ReceiveLeaves (a .plan) (a .link) (a .fsn) (a .octets .now) (a .message .now) (before start) answer
+    → ReceiveLeaves (planAt (a .plan .now)) (a .link) (a .fsn) (a .octets .now) (a .message .now) (before start) answer
     (withLinks (before start) links) (a .octets .now)
 taken-as c kind so =
     let reply = c .before .before .receive-reply in
     let start = start-of c in
     let a = start .args in
-    kind-taken (a .plan) (a .link) (a .fsn) (a .octets .now) (a .message .now) (before start) (reply .result) (reply .ensures)
+    kind-taken (planAt (a .plan .now)) (a .link) (a .fsn) (a .octets .now) (a .message .now) (before start) (reply .result) (reply .ensures)
     (c .before .if1 .left) (c .from-link .result) (c .from-link .ensures) kind so
 
 same-length-2 : tie.Need-same-length-2

@@ -6,6 +6,7 @@ use lib.Dec.{eqb}
 use mathlib.Core.Bool.{true}
 use mathlib.Core.Logic.{⊎-elim}
 use mathlib.Core.Path.{_≡_}
+use Rattle.planwords.specs.Words.{planAt}
 use Rattle.receiving.specs.Receive.{replyOf}
 use Rattle.receiving.proofs.LinkRows.{lastRows, takes, link-out-of-range, number-out-of-range, area-too-short, not-configured, configured, takes-none, another-number, next-number, open-takes, waiting-takes}
 use Rattle.receiving.proofs.receive_reply.Statement.{statement}
@@ -14,12 +15,12 @@ use Rattle.receiving.proofs.receive_reply.Tie as tie
 returns : tie.Need-returns
 returns c =
     let a = c .before .before .args in
-    link-out-of-range (a .plan) (a .links .now) (a .link) (a .fsn) (a .reports .now) (c .if1 .taken)
+    link-out-of-range (planAt (a .plan .now)) (a .links .now) (a .link) (a .fsn) (a .reports .now) (c .if1 .taken)
 
 returns-2 : tie.Need-returns-2
 returns-2 c =
     let a = c .before .before .before .args in
-    number-out-of-range (a .plan) (a .links .now) (a .link) (a .fsn) (a .reports .now) (c .before .if1 .left) (c .if2 .taken)
+    number-out-of-range (planAt (a .plan .now)) (a .links .now) (a .link) (a .fsn) (a .reports .now) (c .before .if1 .left) (c .if2 .taken)
 
 short-requires : tie.Need-short-requires
 short-requires c κs = search needs
@@ -29,7 +30,7 @@ returns-3 c =
     let short = c .before .short in
     let at-number = c .before .before in
     let a = at-number .before .before .before .args in
-    area-too-short (a .plan) (a .links .now) (a .link) (a .fsn) (a .reports .now) (at-number .before .if1 .left) (at-number .if2 .left)
+    area-too-short (planAt (a .plan .now)) (a .links .now) (a .link) (a .fsn) (a .reports .now) (at-number .before .if1 .left) (at-number .if2 .left)
     (short .result) (short .ensures) (c .if3 .taken)
 
 is-link-requires : tie.Need-is-link-requires
@@ -42,7 +43,7 @@ returns-4 c =
     let short = at-short .before .short in
     let at-number = at-short .before .before in
     let a = at-number .before .before .before .args in
-    not-configured (a .plan) (a .links .now) (a .link) (a .fsn) (a .reports .now) (at-number .before .if1 .left)
+    not-configured (planAt (a .plan .now)) (a .links .now) (a .link) (a .fsn) (a .reports .now) (at-number .before .if1 .left)
     (at-number .if2 .left) (short .result) (short .ensures) (at-short .if3 .left) (is .result) (is .ensures) (c .if4 .taken)
 
 load-link-requires : tie.Need-load-link-requires
@@ -51,14 +52,14 @@ load-link-requires c κs = search needs
 -- the rows left once the link is known
 left : (c : tie.After-load-link)
     → let a = c .before .before .before .before .before .before .before .before .args in
-    replyOf (a .plan) (a .links .now) (a .link) (a .fsn) (a .reports .now) ≡ lastRows (c .load-link .result) (a .fsn)
+    replyOf (planAt (a .plan .now)) (a .links .now) (a .link) (a .fsn) (a .reports .now) ≡ lastRows (c .load-link .result) (a .fsn)
 left c =
     let is = c .before .before .is-link in
     let at-short = c .before .before .before in
     let short = at-short .before .short in
     let at-number = at-short .before .before in
     let a = at-number .before .before .before .args in
-    configured (a .plan) (a .links .now) (a .link) (a .fsn) (a .reports .now) (at-number .before .if1 .left)
+    configured (planAt (a .plan .now)) (a .links .now) (a .link) (a .fsn) (a .reports .now) (at-number .before .if1 .left)
     (at-number .if2 .left) (short .result) (short .ensures) (at-short .if3 .left) (is .result) (is .ensures) (c .before .if4 .left)
     (c .load-link .result) (c .load-link .ensures)
 

@@ -5,6 +5,7 @@ use borrow.Author.Tests.{not-true, not-false}
 use mathlib.Core.Bool.{Bool, cond}
 use mathlib.Core.Path.{_≡_, sym, ap, _∙_}
 use native.Mathlib.Omega.{arith}
+use Rattle.planwords.specs.Words.{planAt}
 use Rattle.waiting.specs.Wait.{replyOf}
 use Rattle.waiting.proofs.Expiry.{past-the-last-link, another-timer, no-such-link, by-running}
 use Rattle.waiting.proofs.wait_reply.Statement.{statement}
@@ -38,7 +39,7 @@ runs-requires c κs = search needs
 -- the reply once it is told whether the timer runs
 by-told : (c : tie.After-runs)
     → let call = c .before .before .before .before .before .before .before .args in
-    cond (c .runs .result) 0 5 ≡ replyOf (call .plan) (call .links .now) (call .link) (call .timer)
+    cond (c .runs .result) 0 5 ≡ replyOf (planAt (call .plan .now)) (call .links .now) (call .link) (call .timer)
 by-told c =
     let there = c .before .before in
     let is = there .before .is-link in

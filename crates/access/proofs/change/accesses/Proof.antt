@@ -8,6 +8,7 @@ use Prim.Native.Nat.{ℕ, _-_, _≤_, _<_}
 use native.Mathlib.Omega.{arith}
 use lib.Dec.{ltb}
 use lib.ListN.{length, getD, length-set}
+use Rattle.planwords.specs.Words.{planAt}
 use Rattle.access.specs.Change.{isAccessible}
 use Rattle.access.proofs.Filled.{filled-none, filled-next, filled-all}
 use Rattle.access.proofs.change.accesses.Statement.{statement}
@@ -15,7 +16,7 @@ use Rattle.access.proofs.change.accesses.Tie as tie
 
 abbrev Inv-loop : tie.InvT-loop
 Inv-loop plan links marks each₀ all d₀ each d =
-    (d ≤ all) × (length each ≡ 64) × ((k : ℕ) → getD each k false ≡ (ltb k d && isAccessible plan links marks k))
+    (d ≤ all) × (length each ≡ 64) × ((k : ℕ) → getD each k false ≡ (ltb k d && isAccessible (planAt plan) links marks k))
 
 abbrev μ-loop : tie.MeasureT-loop
 μ-loop plan links marks each₀ all d₀ each d = all - d
@@ -26,7 +27,7 @@ given-of-requires c κs = search needs
 loop-holds : tie.Need-loop-holds Inv-loop μ-loop
 loop-holds c =
     let a = c .before .args in
-    (omega arith, refl, filled-none (isAccessible (a .plan) (a .links .now) (a .marks .now)) 64)
+    (omega arith, refl, filled-none (isAccessible (planAt (a .plan .now)) (a .links .now) (a .marks .now)) 64)
 
 accessible-requires : tie.Need-accessible-requires Inv-loop μ-loop
 accessible-requires c κs = search needs
@@ -46,7 +47,7 @@ loop-again c =
     let a = c .before .before .before .before .args in (
       omega arith,
       length-set (l .each) (l .d) (c .accessible .result) ∙ l .inv .1,
-      filled-next (isAccessible (a .plan) (a .links .now) (a .marks .now)) (l .each) (l .d) (c .accessible .result)
+      filled-next (isAccessible (planAt (a .plan .now)) (a .links .now) (a .marks .now)) (l .each) (l .d) (c .accessible .result)
           (omega (arith, c .before .before .before .given-of .ensures, l .inv .1)) (c .accessible .ensures) (l .inv .2),
     )
 
@@ -54,7 +55,7 @@ returns : tie.Need-returns Inv-loop μ-loop
 returns c =
     let a = c .before .before .before .args in
     let l = c .before .loop in
-    filled-all (a .plan) (a .links .now) (a .marks .now) (l .each) (l .d)
+    filled-all (planAt (a .plan .now)) (a .links .now) (a .marks .now) (l .each) (l .d)
     (omega (arith, c .before .before .given-of .ensures, c .loop-test .left, l .inv .0)) (l .inv .1) (l .inv .2)
 
 pub accesses-spec : {M : Type 1} → statement M

@@ -8,6 +8,7 @@ use mathlib.Core.Path.{_≡_, refl, ap, _∙_}
 use Prim.Native.Nat.{ℕ, _-_, _≤_}
 use native.Mathlib.Omega.{arith}
 use lib.ListN.{length, getD}
+use Rattle.planwords.specs.Words.{planAt}
 use Rattle.plan.specs.declared.data.Plan.{Plan}
 use Rattle.plan.specs.Find.{given}
 use Rattle.reports.specs.Report.{Log, log}
@@ -24,8 +25,8 @@ abbrev Inv-loop : tie.InvT-loop
 Inv-loop plan links marks reports₀ count before all told₀ d₀ reports told d =
     (d ≤ all)
     × (length reports ≡ length reports₀)
-    × (telling plan links marks before d (all - d) (log reports told)
-    ≡ telling plan links marks before 0 all (log reports₀ count))
+    × (telling (planAt plan) links marks before d (all - d) (log reports told)
+    ≡ telling (planAt plan) links marks before 0 all (log reports₀ count))
 
 abbrev μ-loop : tie.MeasureT-loop
 μ-loop plan links marks reports₀ count before all told₀ d₀ reports told d = all - d
@@ -79,7 +80,7 @@ returns c =
     (told-last _ _ _ (l .d) (all .result) (log (l .reports) (l .told)) (c .loop-test .left)
     ∙ l .inv .2
     ∙ ap
-    (λ (n : ℕ). telling (a .plan) (a .links .now) (a .marks .now) (a .t4) 0 n (log (a .reports .now) (a .count)))
+    (λ (n : ℕ). telling (planAt (a .plan .now)) (a .links .now) (a .marks .now) (a .t4) 0 n (log (a .reports .now) (a .count)))
     (all .ensures))
 
 pub report-changes-spec : {M : Type 1} → statement M

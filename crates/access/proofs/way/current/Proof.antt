@@ -1,6 +1,7 @@
 -- `access::way::current` meets its contract: the chooser's answer for what user messages need.
 -- Assumes nothing.
 use borrow.Author.Needs.{needs}
+use Rattle.planwords.specs.Words.{planAt}
 use Rattle.access.proofs.Ways.{link-there}
 use Rattle.access.proofs.way.current.Statement.{statement}
 use Rattle.access.proofs.way.current.Tie as tie
@@ -15,7 +16,7 @@ returns : tie.Need-returns
 returns c =
     let a = c .before .before .args in
     let users = c .before .for-users in
-    link-there (a .plan) (a .links .now) (a .marks .now) (users .result) (a .destination) (a .sls) (c .choose .result)
+    link-there (planAt (a .plan .now)) (a .links .now) (a .marks .now) (users .result) (a .destination) (a .sls) (c .choose .result)
     (users .ensures) (c .choose .ensures)
 
 pub current-spec : {M : Type 1} → statement M

@@ -2,6 +2,7 @@
 -- Assumes nothing.
 use borrow.Author.Needs.{needs}
 use borrow.Author.Tests.{not-true, not-false}
+use Rattle.planwords.specs.Words.{planAt}
 use Rattle.access.proofs.Ways.{no-way, way-there}
 use Rattle.access.proofs.way.directed.Statement.{statement}
 use Rattle.access.proofs.way.directed.Tie as tie
@@ -13,7 +14,7 @@ returns : tie.Need-returns
 returns c =
     let there = c .before .before .seek in
     let a = c .before .before .before .args in
-    no-way (a .plan) (a .links .now) (a .marks .now) (a .need) (a .point) (a .sls) (there .result) (there .ensures)
+    no-way (planAt (a .plan .now)) (a .links .now) (a .marks .now) (a .need) (a .point) (a .sls) (there .result) (there .ensures)
     (not-true (there .result .given) (c .if1 .taken))
 
 choose-by-requires : tie.Need-choose-by-requires
@@ -21,10 +22,10 @@ choose-by-requires c κs = search needs
 
 returns-2 : tie.Need-returns-2
 returns-2 c =
-    let at-if = c .before .before .before in
+    let at-if = c .before .before in
     let there = at-if .before .before .seek in
     let a = at-if .before .before .before .args in
-    way-there (a .plan) (a .links .now) (a .marks .now) (a .need) (a .point) (a .sls) (there .result) (there .ensures)
+    way-there (planAt (a .plan .now)) (a .links .now) (a .marks .now) (a .need) (a .point) (a .sls) (there .result) (there .ensures)
     (not-false (there .result .given) (at-if .if1 .left)) (c .choose-by .result) (c .choose-by .ensures)
 
 pub directed-spec : {M : Type 1} → statement M

@@ -1,6 +1,7 @@
 -- `changeback::pairs::came_from` meets its contract.
 -- Assumes nothing.
 use borrow.Author.Needs.{needs}
+use Rattle.planwords.specs.Words.{planAt}
 use Rattle.changeback.proofs.Coming.{was-here, comes-here, not-here}
 use Rattle.changeback.proofs.pairs.came_from.Statement.{statement}
 use Rattle.changeback.proofs.pairs.came_from.Tie as tie
@@ -12,7 +13,7 @@ returns : tie.Need-returns
 returns c =
     let was = c .before .current in
     let a = c .before .before .args in
-    was-here (a .plan) (a .before .now) (a .after .now) (a .marks .now) (a .link) (a .destination) (a .sls) (was .result)
+    was-here (planAt (a .plan .now)) (a .before .now) (a .after .now) (a .marks .now) (a .link) (a .destination) (a .sls) (was .result)
     (was .ensures) (c .if1 .taken)
 
 current-requires-2 : tie.Need-current-requires-2
@@ -24,7 +25,7 @@ returns-2 c =
     let at-if = c .before .before in
     let was = at-if .before .current in
     let a = at-if .before .before .args in
-    comes-here (a .plan) (a .before .now) (a .after .now) (a .marks .now) (a .link) (a .destination) (a .sls) (was .result)
+    comes-here (planAt (a .plan .now)) (a .before .now) (a .after .now) (a .marks .now) (a .link) (a .destination) (a .sls) (was .result)
     (was .ensures) (is .result) (is .ensures) (at-if .if1 .left) (c .if2 .taken)
 
 returns-3 : tie.Need-returns-3
@@ -33,7 +34,7 @@ returns-3 c =
     let at-if = c .before .before in
     let was = at-if .before .current in
     let a = at-if .before .before .args in
-    not-here (a .plan) (a .before .now) (a .after .now) (a .marks .now) (a .link) (a .destination) (a .sls) (was .result)
+    not-here (planAt (a .plan .now)) (a .before .now) (a .after .now) (a .marks .now) (a .link) (a .destination) (a .sls) (was .result)
     (was .ensures) (is .result) (is .ensures) (at-if .if1 .left) (c .if2 .left)
 
 pub came-from-spec : {M : Type 1} → statement M

@@ -6,6 +6,7 @@ use mathlib.Core.Path.{_≡_, ap, _∙_}
 use mathlib.Core.Bool.{false}
 use Prim.Native.Nat.{ℕ, _-_, _*_, _≤_}
 use native.Mathlib.Omega.{arith}
+use Rattle.planwords.specs.Words.{planAt}
 use Rattle.routing.specs.Which.{none}
 use Rattle.changeback.specs.Pairs.{sources, sourcesFrom}
 use Rattle.changeback.proofs.Coming.{sources-first, sources-next, sources-last}
@@ -15,8 +16,8 @@ use Rattle.changeback.proofs.pairs.sources_of.Tie as tie
 abbrev Inv-loop : tie.InvT-loop
 Inv-loop plan before after marks link all known₀ pair₀ known pair =
     (pair ≤ all)
-    × (sourcesFrom plan before after marks link pair (all - pair) known
-    ≡ sourcesFrom plan before after marks link 0 all (sources none false))
+    × (sourcesFrom (planAt plan) before after marks link pair (all - pair) known
+    ≡ sourcesFrom (planAt plan) before after marks link 0 all (sources none false))
 
 abbrev μ-loop : tie.MeasureT-loop
 μ-loop plan before after marks link all known₀ pair₀ known pair = all - pair
@@ -31,7 +32,7 @@ loop-holds : tie.Need-loop-holds Inv-loop μ-loop
 loop-holds c =
     let a = c .before .args in (
       omega arith,
-      sources-first (a .plan) (a .before .now) (a .after .now) (a .marks .now) (a .link) (16 * c .given-of .result)
+      sources-first (planAt (a .plan .now)) (a .before .now) (a .after .now) (a .marks .now) (a .link) (16 * c .given-of .result)
           (sources none false),
     )
 
@@ -57,7 +58,7 @@ loop-again c =
     let l = at-turn .before .loop in
     let a = at-turn .before .before .before .args in (
       omega arith,
-      sources-next (a .plan) (a .before .now) (a .after .now) (a .marks .now) (a .link) (l .pair) _ (came .result) (l .known)
+      sources-next (planAt (a .plan .now)) (a .before .now) (a .after .now) (a .marks .now) (a .link) (l .pair) _ (came .result) (l .known)
           (c .with-source .result) (at-turn .loop-test .taken) (came .ensures) (c .with-source .ensures)
           ∙ l .inv .1,
     )
@@ -67,10 +68,10 @@ returns c =
     let l = c .before .loop in
     let all = c .before .before .given-of in
     let a = c .before .before .before .args in
-    sources-last (a .plan) (a .before .now) (a .after .now) (a .marks .now) (a .link) (l .pair) _ (l .known) (c .loop-test .left)
+    sources-last (planAt (a .plan .now)) (a .before .now) (a .after .now) (a .marks .now) (a .link) (l .pair) _ (l .known) (c .loop-test .left)
     ∙ l .inv .1
     ∙ ap
-    (λ (n : ℕ). sourcesFrom (a .plan) (a .before .now) (a .after .now) (a .marks .now) (a .link) 0 (16 * n) (sources none false))
+    (λ (n : ℕ). sourcesFrom (planAt (a .plan .now)) (a .before .now) (a .after .now) (a .marks .now) (a .link) 0 (16 * n) (sources none false))
     (all .ensures)
 
 pub sources-of-spec : {M : Type 1} → statement M

@@ -2,6 +2,7 @@
 -- Assumes nothing.
 use borrow.Author.Needs.{needs}
 use native.Mathlib.Omega.{arith}
+use Rattle.planwords.specs.Words.{planAt}
 use Rattle.changeback.proofs.Coming.{no-source, other-source, known-source, first-source}
 use Rattle.changeback.proofs.pairs.with_source.Statement.{statement}
 use Rattle.changeback.proofs.pairs.with_source.Tie as tie
@@ -9,7 +10,7 @@ use Rattle.changeback.proofs.pairs.with_source.Tie as tie
 returns : tie.Need-returns
 returns c =
     let a = c .before .args in
-    no-source (a .plan) (a .link) (a .from) (a .known) (c .if1 .taken)
+    no-source (planAt (a .plan .now)) (a .link) (a .from) (a .known) (c .if1 .taken)
 
 set-of-requires : tie.Need-set-of-requires
 set-of-requires c κs = search needs
@@ -23,7 +24,7 @@ returns-2 c =
     let own = c .before .before .set-of in
     let at-if = c .before .before .before in
     let a = at-if .before .args in
-    other-source (a .plan) (a .link) (a .from) (a .known) (omega (arith, at-if .if1 .left)) (own .result) (other .result)
+    other-source (planAt (a .plan .now)) (a .link) (a .from) (a .known) (omega (arith, at-if .if1 .left)) (own .result) (other .result)
     (own .ensures) (other .ensures) (c .if2 .taken)
 
 returns-3 : tie.Need-returns-3
@@ -33,7 +34,7 @@ returns-3 c =
     let own = at-sets .before .before .set-of in
     let at-if = at-sets .before .before .before in
     let a = at-if .before .args in
-    known-source (a .plan) (a .link) (a .from) (a .known) (omega (arith, at-if .if1 .left)) (own .result) (other .result)
+    known-source (planAt (a .plan .now)) (a .link) (a .from) (a .known) (omega (arith, at-if .if1 .left)) (own .result) (other .result)
     (own .ensures) (other .ensures) (at-sets .if2 .left) (c .if3 .taken)
 
 returns-4 : tie.Need-returns-4
@@ -43,7 +44,7 @@ returns-4 c =
     let own = at-sets .before .before .set-of in
     let at-if = at-sets .before .before .before in
     let a = at-if .before .args in
-    first-source (a .plan) (a .link) (a .from) (a .known) (omega (arith, at-if .if1 .left)) (own .result) (other .result)
+    first-source (planAt (a .plan .now)) (a .link) (a .from) (a .known) (omega (arith, at-if .if1 .left)) (own .result) (other .result)
     (own .ensures) (other .ensures) (at-sets .if2 .left) (c .if3 .left)
 
 pub with-source-spec : {M : Type 1} → statement M

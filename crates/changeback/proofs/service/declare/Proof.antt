@@ -2,6 +2,7 @@
 -- Assumes nothing.
 use borrow.Author.Needs.{needs}
 use native.Mathlib.Omega.{arith}
+use Rattle.planwords.specs.Words.{planAt}
 use Rattle.changeback.proofs.Declaring.{not-declared, is-declared}
 use Rattle.changeback.proofs.service.declare.Statement.{statement}
 use Rattle.changeback.proofs.service.declare.Tie as tie
@@ -9,7 +10,7 @@ use Rattle.changeback.proofs.service.declare.Tie as tie
 returns : tie.Need-returns
 returns c =
     let a = c .before .args in
-    not-declared (a .plan) (a .link) (a .from) (a .spans .now) (a .rings .now) (a .rows .now) (a .arrivals .now) (c .if1 .taken)
+    not-declared (planAt (a .plan .now)) (a .link) (a .from) (a .spans .now) (a .rings .now) (a .rows .now) (a .arrivals .now) (c .if1 .taken)
 
 adjacent-of-requires : tie.Need-adjacent-of-requires
 adjacent-of-requires c κs = search needs
@@ -30,7 +31,7 @@ returns-2 c =
     let at-point = at-slc .before in
     let at-if = at-point .before .before .before .before .before in
     let a = at-if .before .args in
-    is-declared (a .plan) (a .link) (a .from) (a .spans .now) (a .rings .now) (a .rows .now) (a .arrivals .now)
+    is-declared (planAt (a .plan .now)) (a .link) (a .from) (a .spans .now) (a .rings .now) (a .rows .now) (a .arrivals .now)
     (omega (arith, at-if .if1 .left)) (at-point .adjacent-of .result) (at-slc .slc-of .result) (q .result) (q .last .0)
     (q .last .1 .0) (q .last .1 .1 .0) (q .last .1 .1 .1 .0) (at-point .adjacent-of .ensures) (at-slc .slc-of .ensures) (q .ensures)
 

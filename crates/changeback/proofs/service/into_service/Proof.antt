@@ -2,6 +2,7 @@
 -- in.
 -- Assumes nothing.
 use borrow.Author.Needs.{needs}
+use Rattle.planwords.specs.Words.{planAt}
 use Rattle.replies.specs.Areas.{areas}
 use Rattle.changeback.proofs.Entering.{refused-first, refused-lacking, comes-in}
 use Rattle.changeback.proofs.service.into_service.Statement.{statement}
@@ -20,7 +21,7 @@ returns : tie.Need-returns
 returns c =
     let first = c .before .before .service-reply in
     let a = c .before .before .before .before .before .before .args in
-    refused-first (a .plan)
+    refused-first (planAt (a .plan .now))
     (areas (a .links .now) (a .marks .now) (a .spans .now) (a .rings .now) (a .rows .now) (a .arrivals .now) (a .reports .now))
     (a .link) (first .result) (first .ensures) (c .plain .result) (c .before .if1 .taken) (c .plain .ensures)
 
@@ -44,7 +45,7 @@ returns-2 c =
     let at-first = at-sources .before .before in
     let first = at-first .before .service-reply in
     let a = at-first .before .before .before .before .before .args in
-    refused-lacking (a .plan)
+    refused-lacking (planAt (a .plan .now))
     (areas (a .links .now) (a .marks .now) (a .spans .now) (a .rings .now) (a .rows .now) (a .arrivals .now) (a .reports .now))
     (a .link) (first .result) (first .ensures) (at-first .if1 .left) (from .result) (from .ensures) (d .result) (d .last .1 .0)
     (d .last .1 .1 .0) (d .last .1 .1 .1 .0) (d .last .1 .1 .1 .1 .0) (d .ensures) (c .plain2 .result) (c .before .if2 .taken)
@@ -83,7 +84,7 @@ returns-3 c =
     let at-first = at-sources .before .before in
     let first = at-first .before .service-reply in
     let a = at-first .before .before .before .before .before .args in
-    comes-in (a .plan)
+    comes-in (planAt (a .plan .now))
     (areas (a .links .now) (a .marks .now) (a .spans .now) (a .rings .now) (a .rows .now) (a .arrivals .now) (a .reports .now))
     (a .link) (first .result) (first .ensures) (at-first .if1 .left) (from .result) (from .ensures) (d .result) (d .last .1 .0)
     (d .last .1 .1 .0) (d .last .1 .1 .1 .0) (d .last .1 .1 .1 .1 .0) (d .ensures) (at-lacking .if2 .left) (known .result)

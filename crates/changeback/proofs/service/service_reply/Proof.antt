@@ -3,6 +3,7 @@
 use borrow.Author.Needs.{needs}
 use borrow.Author.Tests.{not-true, not-false}
 use native.Mathlib.Omega.{arith}
+use Rattle.planwords.specs.Words.{planAt}
 use Rattle.changeback.proofs.Replying.{no-such-link, area-short, not-configured, not-out, can-come}
 use Rattle.changeback.proofs.service.service_reply.Statement.{statement}
 use Rattle.changeback.proofs.service.service_reply.Tie as tie
@@ -10,7 +11,7 @@ use Rattle.changeback.proofs.service.service_reply.Tie as tie
 returns : tie.Need-returns
 returns c =
     let a = c .before .before .args in
-    no-such-link (a .plan) (a .links .now) (a .link) (a .reports .now) (c .if1 .taken)
+    no-such-link (planAt (a .plan .now)) (a .links .now) (a .link) (a .reports .now) (c .if1 .taken)
 
 short-requires : tie.Need-short-requires
 short-requires c κs = search needs
@@ -19,7 +20,7 @@ returns-2 : tie.Need-returns-2
 returns-2 c =
     let short = c .before .short in
     let a = c .before .before .before .before .args in
-    area-short (a .plan) (a .links .now) (a .link) (a .reports .now) (short .result) (short .ensures) (c .if2 .taken)
+    area-short (planAt (a .plan .now)) (a .links .now) (a .link) (a .reports .now) (short .result) (short .ensures) (c .if2 .taken)
 
 is-link-requires : tie.Need-is-link-requires
 is-link-requires c κs = search needs
@@ -31,7 +32,7 @@ returns-3 c =
     let short = at-short .before .short in
     let at-if = at-short .before .before in
     let a = at-if .before .before .args in
-    not-configured (a .plan) (a .links .now) (a .link) (a .reports .now) (short .result) (short .ensures)
+    not-configured (planAt (a .plan .now)) (a .links .now) (a .link) (a .reports .now) (short .result) (short .ensures)
     (omega (arith, at-if .if1 .left)) (at-short .if2 .left) (is-link .result) (is-link .ensures)
     (not-true (is-link .result) (c .if3 .taken))
 
@@ -47,7 +48,7 @@ returns-4 c =
     let short = at-short .before .short in
     let at-if = at-short .before .before in
     let a = at-if .before .before .args in
-    not-out (a .plan) (a .links .now) (a .link) (a .reports .now) (short .result) (short .ensures)
+    not-out (planAt (a .plan .now)) (a .links .now) (a .link) (a .reports .now) (short .result) (short .ensures)
     (omega (arith, at-if .if1 .left)) (at-short .if2 .left) (is-link .result) (is-link .ensures)
     (not-false (is-link .result) (at-link .if3 .left)) (load .result) (load .ensures) (c .if4 .taken)
 
@@ -60,7 +61,7 @@ returns-5 c =
     let short = at-short .before .short in
     let at-if = at-short .before .before in
     let a = at-if .before .before .args in
-    can-come (a .plan) (a .links .now) (a .link) (a .reports .now) (short .result) (short .ensures)
+    can-come (planAt (a .plan .now)) (a .links .now) (a .link) (a .reports .now) (short .result) (short .ensures)
     (omega (arith, at-if .if1 .left)) (at-short .if2 .left) (is-link .result) (is-link .ensures)
     (not-false (is-link .result) (at-link .if3 .left)) (load .result) (load .ensures) (c .if4 .left)
 

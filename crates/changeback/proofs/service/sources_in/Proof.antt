@@ -1,6 +1,7 @@
 -- `changeback::service::sources_in` meets its contract.
 -- Assumes nothing.
 use borrow.Author.Needs.{needs}
+use Rattle.planwords.specs.Words.{planAt}
 use Rattle.changeback.proofs.Entering.{sources-stored}
 use Rattle.changeback.proofs.service.sources_in.Statement.{statement}
 use Rattle.changeback.proofs.service.sources_in.Tie as tie
@@ -20,7 +21,7 @@ returns c =
     let known = at-store .before .in-service in
     let a = at-store .before .before .before .before .args in
     let store = at-store .store-link in
-    sources-stored (a .plan) (a .links .now) (a .marks .now) (a .link) (known .result) (store .last .0) (c .sources-of .result)
+    sources-stored (planAt (a .plan .now)) (a .links .now) (a .marks .now) (a .link) (known .result) (store .last .0) (c .sources-of .result)
     (known .ensures) (store .ensures) (c .sources-of .ensures)
 
 pub sources-in-spec : {M : Type 1} → statement M

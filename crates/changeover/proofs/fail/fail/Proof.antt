@@ -1,6 +1,7 @@
 -- `fail::fail` meets its contract: it is refused by its reply, or the link goes out if it waits, else a changeover begins.
 -- Assumes nothing.
 use borrow.Author.Needs.{needs}
+use Rattle.planwords.specs.Words.{planAt}
 use Rattle.replies.specs.Areas.{areas}
 use Rattle.changeover.proofs.Failing.{failure-refused, waiting-fails, other-fails}
 use Rattle.changeover.proofs.fail.fail.Statement.{statement}
@@ -19,7 +20,7 @@ returns : tie.Need-returns
 returns c =
     let reply = c .before .before .fail-reply in
     let a = c .before .before .before .before .before .before .args in
-    failure-refused (a .plan)
+    failure-refused (planAt (a .plan .now))
     (areas (a .links .now) (a .marks .now) (a .spans .now) (a .rings .now) (a .rows .now) (a .arrivals .now) (a .reports .now))
     (a .link) (reply .result) (reply .ensures) (c .before .if1 .taken) (c .plain .result) (c .plain .ensures)
 
@@ -50,7 +51,7 @@ returns-2 c =
     let at-if = at-state .before .before .before .before in
     let reply = at-if .before .fail-reply in
     let a = at-if .before .before .before .before .before .args in
-    waiting-fails (a .plan)
+    waiting-fails (planAt (a .plan .now))
     (areas (a .links .now) (a .marks .now) (a .spans .now) (a .rings .now) (a .rows .now) (a .arrivals .now) (a .reports .now))
     (a .link) (reply .result) (reply .ensures) (at-if .if1 .left) (known .result) (known .ensures) (at-state .if2 .taken)
     (cut .result) (cut .ensures) (end .result) (left .1 .1 .1 .1 .1 .0) (end .last .1 .0) (left .0) (left .1 .0) (end .ensures)
@@ -71,7 +72,7 @@ returns-3 c =
     let at-if = at-state .before .before .before .before in
     let reply = at-if .before .fail-reply in
     let a = at-if .before .before .before .before .before .args in
-    other-fails (a .plan)
+    other-fails (planAt (a .plan .now))
     (areas (a .links .now) (a .marks .now) (a .spans .now) (a .rings .now) (a .rows .now) (a .arrivals .now) (a .reports .now))
     (a .link) (reply .result) (reply .ensures) (at-if .if1 .left) (known .result) (known .ensures) (at-state .if2 .left)
     (opened .result) (opened .last .1 .0) (left .0) (left .1 .0) (left .1 .1 .0) (left .1 .1 .1 .0) (opened .ensures)

@@ -4,6 +4,7 @@ use borrow.Author.Needs.{needs}
 use mathlib.Core.Path.{_≡_}
 use mathlib.Core.Bool.{cond}
 use mathlib.Core.Logic.{⊎-elim}
+use Rattle.planwords.specs.Words.{planAt}
 use Rattle.replies.specs.Areas.{areas}
 use Rattle.changeover.proofs.Failing.{open-fails}
 use Rattle.changeover.proofs.fail.fail_open.Statement.{statement}
@@ -43,7 +44,7 @@ returns c =
     let at-order = at-make .before .before .before .before .before .before in
     let order = at-order .order-of in
     let a = at-order .before .before .before .args in
-    open-fails (a .plan)
+    open-fails (planAt (a .plan .now))
     (areas (a .links .now) (a .marks .now) (a .spans .now) (a .rings .now) (a .rows .now) (a .arrivals .now) (a .reports .now))
     (a .link) (order .result) (order .ensures) (make .result) (left .0) (left .1 .0) (left .1 .1 .0) (left .1 .1 .1 .0) (make .ensures)
     (known .result) (known .ensures) (at-timer .if1 .timer) (started at-timer) (next .result) (next .ensures) (store .last .0)

@@ -6,6 +6,7 @@ use lib.Dec.{eqb}
 use mathlib.Core.Bool.{cond, not, _||_}
 use mathlib.Core.Path.{_≡_}
 use native.Mathlib.Omega.{arith}
+use Rattle.planwords.specs.Words.{planAt}
 use Rattle.replies.specs.Reply.{first}
 use Rattle.changeover.specs.Fail.{replyOf}
 use Rattle.changeover.proofs.fail.fail_reply.Statement.{statement}
@@ -46,7 +47,7 @@ load-link-requires c κs = search needs
 by-state : (c : tie.After-load-link)
     → let a = c .before .before .before .before .before .before .before .args in
     let state = c .load-link .result .state in
-    replyOf (a .plan) (a .links .now) (a .link) (a .reports .now) ≡ cond (not (eqb state 2 || eqb state 1)) 5 0
+    replyOf (planAt (a .plan .now)) (a .links .now) (a .link) (a .reports .now) ≡ cond (not (eqb state 2 || eqb state 1)) 5 0
 unfolding replyOf first
 by-state c =
     let known = c .load-link in

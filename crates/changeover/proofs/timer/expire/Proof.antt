@@ -2,6 +2,7 @@
 -- Assumes nothing.
 use borrow.Author.Needs.{needs}
 use mathlib.Core.List.{[]}
+use Rattle.planwords.specs.Words.{planAt}
 use Rattle.replies.specs.Areas.{areas}
 use Rattle.changeover.proofs.Expiring.{expiry-refused, goes-out}
 use Rattle.changeover.proofs.timer.expire.Statement.{statement}
@@ -20,7 +21,7 @@ returns : tie.Need-returns
 returns c =
     let reply = c .before .before .expire-reply in
     let a = c .before .before .before .before .before .before .args in
-    expiry-refused (a .plan)
+    expiry-refused (planAt (a .plan .now))
     (areas (a .links .now) (a .marks .now) (a .spans .now) (a .rings .now) (a .rows .now) [] (a .reports .now))
     (a .link) (a .timer) (reply .result) (reply .ensures) (c .before .if1 .taken) (c .plain .result) (c .plain .ensures)
 
@@ -51,7 +52,7 @@ returns-2 c =
     let reply = at-if .before .expire-reply in
     let a = at-if .before .before .before .before .before .args in
     let left = end .last .1 .1 .1 in
-    goes-out (a .plan)
+    goes-out (planAt (a .plan .now))
     (areas (a .links .now) (a .marks .now) (a .spans .now) (a .rings .now) (a .rows .now) [] (a .reports .now))
     (a .link) (a .timer) (reply .result) (reply .ensures) (at-if .if1 .left) (known .result) (known .ensures) (cut .result)
     (cut .ensures) (end .result) (left .1 .1 .1 .1 .1 .0) (end .last .1 .0) (left .0) (left .1 .0) (end .ensures)

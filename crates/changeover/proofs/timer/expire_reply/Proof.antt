@@ -7,6 +7,7 @@ use lib.Dec.{eqb}
 use mathlib.Core.Bool.{true, cond, not, _||_}
 use mathlib.Core.Path.{_≡_}
 use native.Mathlib.Omega.{arith}
+use Rattle.planwords.specs.Words.{planAt}
 use Rattle.replies.specs.Reply.{first}
 use Rattle.changeover.specs.Timer.{replyOf}
 use Rattle.changeover.proofs.Expiring.{another-timer}
@@ -20,12 +21,12 @@ returns c = simp (le-leb _ _ (c .if1 .taken))
 returns-2 : tie.Need-returns-2
 returns-2 c =
     let a = c .before .before .before .args in
-    another-timer (a .plan) (a .links .now) (a .link) (a .timer) (a .reports .now) (λ e. omega arith) (λ e. omega arith)
+    another-timer (planAt (a .plan .now)) (a .links .now) (a .link) (a .timer) (a .reports .now) (λ e. omega arith) (λ e. omega arith)
 
 returns-3 : tie.Need-returns-3
 returns-3 c =
     let a = c .before .before .before .before .args in
-    another-timer (a .plan) (a .links .now) (a .link) (a .timer) (a .reports .now) (λ e. omega arith) (λ e. omega arith)
+    another-timer (planAt (a .plan .now)) (a .links .now) (a .link) (a .timer) (a .reports .now) (λ e. omega arith) (λ e. omega arith)
 
 short-requires : tie.Need-short-requires
 short-requires c κs = search needs
@@ -72,7 +73,7 @@ load-link-requires c κs = search needs
 -- the reply once the record is read: by whether it names the timer
 by-timer : (c : tie.After-load-link)
     → let a = c .before .before .before .before .before .before .before .before .before .args in
-    replyOf (a .plan) (a .links .now) (a .link) (a .timer) (a .reports .now)
+    replyOf (planAt (a .plan .now)) (a .links .now) (a .link) (a .timer) (a .reports .now)
     ≡ cond (not (eqb (c .load-link .result .timer) (a .timer))) 5 0
 unfolding replyOf first
 by-timer c =

@@ -7,6 +7,7 @@ use mathlib.Core.List.{[], _∷_, _++_}
 use Prim.Native.Nat.{ℕ, _+_, _-_, _*_, _≤_}
 use native.Mathlib.Omega.{arith}
 use lib.ListN.{length}
+use Rattle.planwords.specs.Words.{planAt}
 use Rattle.text.specs.Part.{tab, lf}
 use Rattle.listing.specs.RouteList.{inRow, linkWord, rowOf, wordOf}
 use Rattle.listing.proofs.Laid.{Left, left-all, left-on, left-last}
@@ -17,7 +18,7 @@ use Rattle.listing.proofs.list.put_words.Tie as tie
 abbrev Inv-loop : tie.InvT-loop
 Inv-loop plan links marks destination out₀ at need end₀ sls₀ out end sls =
     (sls ≤ 16) × ((end + 3 * (16 - sls) + 1 ≤ length out) ×
-    Left out₀ at (rowOf links marks plan destination) out end (inRow (wordOf links marks plan destination) sls (16 - sls)))
+    Left out₀ at (rowOf links marks (planAt plan) destination) out end (inRow (wordOf links marks (planAt plan) destination) sls (16 - sls)))
 
 abbrev μ-loop : tie.MeasureT-loop
 μ-loop plan links marks destination out₀ at need end₀ sls₀ out end sls = 16 - sls
@@ -25,7 +26,7 @@ abbrev μ-loop : tie.MeasureT-loop
 loop-holds : tie.Need-loop-holds Inv-loop μ-loop
 loop-holds c =
     let a = c .before .args in
-    let row = rowOf (a .links .now) (a .marks .now) (a .plan) (a .destination) in
+    let row = rowOf (a .links .now) (a .marks .now) (planAt (a .plan .now)) (a .destination) in
     (omega arith, (omega arith, left-all (a .out .now) (a .at) row))
 
 choose-requires : tie.Need-choose-requires Inv-loop μ-loop
@@ -46,7 +47,7 @@ loop-again c =
     let chose = c .before .before .before .before in
     let l = chose .before .before .loop in
     let a = chose .before .before .before .before .args in
-    let word = wordOf (a .links .now) (a .marks .now) (a .plan) (a .destination) in
+    let word = wordOf (a .links .now) (a .marks .now) (planAt (a .plan .now)) (a .destination) in
     let few : length (linkWord (chose .choose .result)) ≤ 2 = word-few (chose .choose .result) in
     let rest = inRow word (l .sls + 1) (16 - (l .sls + 1)) in
     let next = row-next word (l .sls) (omega arith) in
@@ -70,7 +71,7 @@ returns c =
     let at-loop = c .before .before .before .before .before in
     let l = at-loop .loop in
     let a = at-loop .before .before .args in
-    let word = wordOf (a .links .now) (a .marks .now) (a .plan) (a .destination) in
+    let word = wordOf (a .links .now) (a .marks .now) (planAt (a .plan .now)) (a .destination) in
     left-last (l .inv .1 .1) (lf ∷ []) _ _ (row-end word (l .sls) (omega arith)) done
 
 pub put-words-spec : {M : Type 1} → statement M

@@ -2,6 +2,7 @@
 -- Assumes nothing.
 use borrow.Author.Needs.{needs}
 use mathlib.Core.Path.{_≡_, _∙_}
+use Rattle.planwords.specs.Words.{planAt}
 use Rattle.replies.specs.declared.Answer.{Answer}
 use Rattle.replies.specs.Areas.{areas}
 use Rattle.node.specs.declared.call.Event.{Event}
@@ -25,9 +26,9 @@ before c =
 
 -- the event was told for one of its kinds
 told : (c : tie.Start) (kind : Event) → c .args .event ≡ kind → (r : Answer) (after : Memory)
-    → Gives (callOf (c .args .plan) kind (c .args .message .now) (before c)) r after
-    → Gives (callOf (c .args .plan) (c .args .event) (c .args .message .now) (before c)) r after
-told c = told-as (c .args .plan) (c .args .message .now) (before c) (c .args .event)
+    → Gives (callOf (planAt (c .args .plan .now)) kind (c .args .message .now) (before c)) r after
+    → Gives (callOf (planAt (c .args .plan .now)) (c .args .event) (c .args .message .now) (before c)) r after
+told c = told-as (planAt (c .args .plan .now)) (c .args .message .now) (before c) (c .args .event)
 
 enum-known-event : tie.Need-enum-known-event
 enum-known-event c = search needs
@@ -122,8 +123,8 @@ expire-t10-requires c κs = search needs
 enum-told-2 : tie.Need-enum-told-2
 enum-told-2 c = search needs
 
-list-requires : tie.Need-list-requires
-list-requires c κs = search needs
+route-list-requires : tie.Need-route-list-requires
+route-list-requires c κs = search needs
 
 same-length : tie.Need-same-length
 same-length c = search needs
@@ -163,7 +164,7 @@ returns-3 c =
     let s = at-event .before .before .before .before .before in
     let a = s .args in
     told s (Send (e .0 .0)) (e .1) _ _
-    (gives-send (a .plan) (before s) (e .0 .0) (o .result) (o .last .1 .0) (o .last .1 .1 .1 .1 .1 .1 .1 .0) (o .ensures))
+    (gives-send (planAt (a .plan .now)) (before s) (e .0 .0) (o .result) (o .last .1 .0) (o .last .1 .1 .1 .1 .1 .1 .1 .0) (o .ensures))
 
 returns-4 : tie.Need-returns-4
 unfolding callOf
@@ -174,7 +175,7 @@ returns-4 c =
     let s = at-event .before .before .before .before .before in
     let a = s .args in
     told s (Acknowledgement (e .0 .0) (e .0 .1 .0)) (e .1) _ _
-    (gives-acknowledgement (a .plan) (before s) (e .0 .0) (e .0 .1 .0) (o .result) (o .last .1 .0) (o .last .1 .1 .0) (o .last .1 .1 .1 .0)
+    (gives-acknowledgement (planAt (a .plan .now)) (before s) (e .0 .0) (e .0 .1 .0) (o .result) (o .last .1 .0) (o .last .1 .1 .0) (o .last .1 .1 .1 .0)
     (o .ensures) (c .plain .result) (c .plain .ensures))
 
 same-length-4 : tie.Need-same-length-4
@@ -199,8 +200,8 @@ returns-6 c =
     let s = at-event .before .before .before .before .before in
     let a = s .args in
     told s FromHost (e .1) _ _
-    (with-areas _ _ _ (sent-leaves (a .plan) (before s .areas) (a .message .now) _ _ (o .ensures .0)) _ _ _
-    (o .ensures .1 ∙ octets-apart (a .plan) (before s .areas) (a .message .now) (a .octets .now)))
+    (with-areas _ _ _ (sent-leaves (planAt (a .plan .now)) (before s .areas) (a .message .now) _ _ (o .ensures .0)) _ _ _
+    (o .ensures .1 ∙ octets-apart (planAt (a .plan .now)) (before s .areas) (a .message .now) (a .octets .now)))
 
 same-length-5 : tie.Need-same-length-5
 same-length-5 c = search needs
@@ -214,7 +215,7 @@ returns-7 c =
     let s = at-event .before .before .before .before .before in
     let a = s .args in
     told s (T1 (e .0 .0)) (e .1) _ _
-    (areas-alone _ _ _ (before s) (changeover-leaves (a .plan) (before s .areas) (e .0 .0) 1 _ _ (o .ensures)))
+    (areas-alone _ _ _ (before s) (changeover-leaves (planAt (a .plan .now)) (before s .areas) (e .0 .0) 1 _ _ (o .ensures)))
 
 same-length-6 : tie.Need-same-length-6
 same-length-6 c = search needs
@@ -228,7 +229,7 @@ returns-8 c =
     let s = at-event .before .before .before .before .before in
     let a = s .args in
     told s (T2 (e .0 .0)) (e .1) _ _
-    (areas-alone _ _ _ (before s) (changeover-leaves (a .plan) (before s .areas) (e .0 .0) 2 _ _ (o .ensures)))
+    (areas-alone _ _ _ (before s) (changeover-leaves (planAt (a .plan .now)) (before s .areas) (e .0 .0) 2 _ _ (o .ensures)))
 
 returns-9 : tie.Need-returns-9
 unfolding callOf
@@ -239,7 +240,7 @@ returns-9 c =
     let s = at-event .before .before .before .before .before in
     let a = s .args in
     told s (T3 (e .0 .0)) (e .1) _ _
-    (gives-wait (a .plan) (before s) (e .0 .0) 3 (o .result) (o .last .1 .0) (o .ensures) (c .plain2 .result) (c .plain2 .ensures))
+    (gives-wait (planAt (a .plan .now)) (before s) (e .0 .0) 3 (o .result) (o .last .1 .0) (o .ensures) (c .plain2 .result) (c .plain2 .ensures))
 
 returns-10 : tie.Need-returns-10
 unfolding callOf
@@ -250,7 +251,7 @@ returns-10 c =
     let s = at-event .before .before .before .before .before in
     let a = s .args in
     told s (T4 (e .0 .0)) (e .1) _ _
-    (gives-wait (a .plan) (before s) (e .0 .0) 4 (o .result) (o .last .1 .0) (o .ensures) (c .plain3 .result) (c .plain3 .ensures))
+    (gives-wait (planAt (a .plan .now)) (before s) (e .0 .0) 4 (o .result) (o .last .1 .0) (o .ensures) (c .plain3 .result) (c .plain3 .ensures))
 
 same-length-7 : tie.Need-same-length-7
 same-length-7 c = search needs
@@ -264,7 +265,7 @@ returns-11 c =
     let s = at-event .before .before .before .before .before in
     let a = s .args in
     told s (T6 (e .0 .0)) (e .1) _ _
-    (areas-alone _ _ _ (before s) (t6-leaves (a .plan) (before s .areas) (e .0 .0) _ _ (o .ensures)))
+    (areas-alone _ _ _ (before s) (t6-leaves (planAt (a .plan .now)) (before s .areas) (e .0 .0) _ _ (o .ensures)))
 
 returns-12 : tie.Need-returns-12
 unfolding callOf
@@ -275,7 +276,7 @@ returns-12 c =
     let s = at-event .before .before .before .before .before in
     let a = s .args in
     told s (T8 (e .0 .0)) (e .1) _ _
-    (gives-t8 (a .plan) (before s) (e .0 .0) (o .result) (o .last .1 .0) (o .ensures) (c .plain4 .result) (c .plain4 .ensures))
+    (gives-t8 (planAt (a .plan .now)) (before s) (e .0 .0) (o .result) (o .last .1 .0) (o .ensures) (c .plain4 .result) (c .plain4 .ensures))
 
 returns-13 : tie.Need-returns-13
 unfolding callOf
@@ -286,7 +287,7 @@ returns-13 c =
     let s = at-event .before .before .before .before .before in
     let a = s .args in
     told s (T10 (e .0 .0) (e .0 .1 .0)) (e .1) _ _
-    (areas-alone _ _ _ (before s) (t10-leaves (a .plan) (before s .areas) (e .0 .0) (e .0 .1 .0) _ _ (o .ensures)))
+    (areas-alone _ _ _ (before s) (t10-leaves (planAt (a .plan .now)) (before s .areas) (e .0 .0) (e .0 .1 .0) _ _ (o .ensures)))
 
 same-length-8 : tie.Need-same-length-8
 same-length-8 c = search needs
@@ -294,13 +295,13 @@ same-length-8 c = search needs
 returns-14 : tie.Need-returns-14
 unfolding callOf
 returns-14 c =
-    let o = c .before .before .list in
+    let o = c .before .before .route-list in
     let at-event = c .before .before .before .before .before .before in
     let e = at-event .enum-told2 .given in
     let s = at-event .before .before .before .before .before in
     let a = s .args in
     told s RouteList (e .1) _ _
-    (gives-list (a .plan) (before s) (o .result) (o .last .1 .1 .1 .0) (o .ensures))
+    (gives-list (planAt (a .plan .now)) (before s) (o .result) (o .last .1 .1 .1 .0) (o .ensures))
 
 pub call-spec : {M : Type 1} → statement M
 call-spec =
@@ -337,7 +338,7 @@ call-spec =
     enum-known-event-12
     expire-t10-requires
     enum-told-2
-    list-requires
+    route-list-requires
     same-length
     returns
     same-length-2

@@ -2,6 +2,7 @@
 -- Assumes nothing.
 use borrow.Author.Needs.{needs}
 use borrow.Author.Tests.{not-true, not-false}
+use Rattle.planwords.specs.Words.{planAt}
 use Rattle.orders.proofs.Asking.{not-adjacent, not-given, not-reached, by-current-set}
 use Rattle.orders.proofs.ask.allows.Statement.{statement}
 use Rattle.orders.proofs.ask.allows.Tie as tie
@@ -13,7 +14,7 @@ returns : tie.Need-returns
 returns c =
     let to = c .before .set-to in
     let a = c .before .before .args in
-    not-adjacent (a .plan) (a .links .now) (a .marks .now) (a .point) (a .x) (to .result) (to .ensures) (c .if1 .taken)
+    not-adjacent (planAt (a .plan .now)) (a .links .now) (a .marks .now) (a .point) (a .x) (to .result) (to .ensures) (c .if1 .taken)
 
 find-requires : tie.Need-find-requires
 find-requires c κs = search needs
@@ -24,7 +25,7 @@ returns-2 c =
     let at-if = c .before .before .before in
     let to = at-if .before .set-to in
     let a = at-if .before .before .args in
-    not-given (a .plan) (a .links .now) (a .marks .now) (a .point) (a .x) (to .result) (to .ensures) (at-if .if1 .left)
+    not-given (planAt (a .plan .now)) (a .links .now) (a .marks .now) (a .point) (a .x) (to .result) (to .ensures) (at-if .if1 .left)
     (found .result) (found .ensures) (not-true (found .result .given) (c .if2 .taken))
 
 accessible-requires : tie.Need-accessible-requires
@@ -38,7 +39,7 @@ returns-3 c =
     let at-if = at-given .before .before .before in
     let to = at-if .before .set-to in
     let a = at-if .before .before .args in
-    not-reached (a .plan) (a .links .now) (a .marks .now) (a .point) (a .x) (to .result) (to .ensures) (at-if .if1 .left)
+    not-reached (planAt (a .plan .now)) (a .links .now) (a .marks .now) (a .point) (a .x) (to .result) (to .ensures) (at-if .if1 .left)
     (found .result) (found .ensures) (not-false (found .result .given) (at-given .if2 .left)) (reached .result)
     (reached .ensures) (not-true (reached .result) (c .if3 .taken))
 
@@ -54,7 +55,7 @@ returns-4 c =
     let at-if = at-given .before .before .before in
     let to = at-if .before .set-to in
     let a = at-if .before .before .args in
-    by-current-set (a .plan) (a .links .now) (a .marks .now) (a .point) (a .x) (to .result) (to .ensures) (at-if .if1 .left)
+    by-current-set (planAt (a .plan .now)) (a .links .now) (a .marks .now) (a .point) (a .x) (to .result) (to .ensures) (at-if .if1 .left)
     (found .result) (found .ensures) (not-false (found .result .given) (at-given .if2 .left)) (reached .result)
     (reached .ensures) (not-false (reached .result) (at-reached .if3 .left)) (c .current-set .result) (c .current-set .ensures)
 

@@ -1,6 +1,7 @@
 -- `orders::ask::ask_cbd` meets its contract: nothing of no link, and a CBA of the same code of one.
 -- Assumes nothing.
 use borrow.Author.Needs.{needs}
+use Rattle.planwords.specs.Words.{planAt}
 use Rattle.orders.proofs.Asking.{cbd-of-none, cbd-answered}
 use Rattle.orders.proofs.ask.ask_cbd.Statement.{statement}
 use Rattle.orders.proofs.ask.ask_cbd.Tie as tie
@@ -15,7 +16,7 @@ returns : tie.Need-returns
 returns c =
     let named = c .before .before .link-named in
     let a = c .before .before .before .args in
-    cbd-of-none (a .plan) (a .point) (a .slc) (named .result) (named .ensures) (a .code) (c .nothing .result)
+    cbd-of-none (planAt (a .plan .now)) (a .point) (a .slc) (named .result) (named .ensures) (a .code) (c .nothing .result)
     (c .before .if1 .taken) (c .nothing .ensures)
 
 answer-requires : tie.Need-answer-requires
@@ -25,7 +26,7 @@ returns-2 : tie.Need-returns-2
 returns-2 c =
     let named = c .before .before .link-named in
     let a = c .before .before .before .args in
-    cbd-answered (a .plan) (a .point) (a .slc) (named .result) (named .ensures) (a .code) (c .answer .result)
+    cbd-answered (planAt (a .plan .now)) (a .point) (a .slc) (named .result) (named .ensures) (a .code) (c .answer .result)
     (c .before .if1 .left) (c .answer .ensures)
 
 pub ask-cbd-spec : {M : Type 1} → statement M

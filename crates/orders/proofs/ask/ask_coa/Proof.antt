@@ -1,6 +1,7 @@
 -- `orders::ask::ask_coa` meets its contract: the link that it names, its record, and the cut at its number.
 -- Assumes nothing.
 use borrow.Author.Needs.{needs}
+use Rattle.planwords.specs.Words.{planAt}
 use Rattle.orders.proofs.Asking.{coa-acked}
 use Rattle.orders.proofs.ask.ask_coa.Statement.{statement}
 use Rattle.orders.proofs.ask.ask_coa.Tie as tie
@@ -23,7 +24,7 @@ returns c =
     let load = c .before .before .load-link in
     let named = c .before .before .before .link-named in
     let a = c .before .before .before .before .args in
-    coa-acked (a .plan) (a .point) (a .slc) (named .result) (named .ensures) (a .links .now) (load .result) (load .ensures)
+    coa-acked (planAt (a .plan .now)) (a .point) (a .slc) (named .result) (named .ensures) (a .links .now) (load .result) (load .ensures)
     (cut .result) (c .ack-step .result) (c .ack-step .ensures) (a .f) (cut .ensures)
 
 pub ask-coa-spec : {M : Type 1} → statement M

@@ -1,6 +1,7 @@
 -- `orders::ask::ask_coo` meets its contract: nothing of no link, and an order with COA for its answer of one.
 -- Assumes nothing.
 use borrow.Author.Needs.{needs}
+use Rattle.planwords.specs.Words.{planAt}
 use Rattle.orders.proofs.Asking.{coo-of-none, coo-ordered}
 use Rattle.orders.proofs.ask.ask_coo.Statement.{statement}
 use Rattle.orders.proofs.ask.ask_coo.Tie as tie
@@ -15,7 +16,7 @@ returns : tie.Need-returns
 returns c =
     let named = c .before .before .link-named in
     let a = c .before .before .before .args in
-    coo-of-none (a .plan) (a .point) (a .slc) (named .result) (named .ensures) (a .links .now) (a .arriving) (a .fsn) (a .f)
+    coo-of-none (planAt (a .plan .now)) (a .point) (a .slc) (named .result) (named .ensures) (a .links .now) (a .arriving) (a .fsn) (a .f)
     (c .nothing .result) (c .before .if1 .taken) (c .nothing .ensures)
 
 load-link-requires : tie.Need-load-link-requires
@@ -45,7 +46,7 @@ returns-2 c =
     let at-if = c .before .before .before .before .before in
     let named = at-if .before .link-named in
     let a = at-if .before .before .args in
-    coo-ordered (a .plan) (a .point) (a .slc) (named .result) (named .ensures) (a .links .now) (a .arriving) (a .fsn) (a .f)
+    coo-ordered (planAt (a .plan .now)) (a .point) (a .slc) (named .result) (named .ensures) (a .links .now) (a .arriving) (a .fsn) (a .f)
     (c .order-step .result) (at-if .if1 .left) (load .result) (last .result) (eca .result) (cut .result) (load .ensures)
     (last .ensures) (eca .ensures) (cut .ensures) (c .order-step .ensures)
 

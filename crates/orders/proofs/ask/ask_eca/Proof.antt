@@ -1,6 +1,7 @@
 -- `orders::ask::ask_eca` meets its contract: the link that it names, its record, and the cut without a number.
 -- Assumes nothing.
 use borrow.Author.Needs.{needs}
+use Rattle.planwords.specs.Words.{planAt}
 use Rattle.orders.proofs.Asking.{eca-acked}
 use Rattle.orders.proofs.ask.ask_eca.Statement.{statement}
 use Rattle.orders.proofs.ask.ask_eca.Tie as tie
@@ -23,7 +24,7 @@ returns c =
     let load = c .before .before .load-link in
     let named = c .before .before .before .link-named in
     let a = c .before .before .before .before .args in
-    eca-acked (a .plan) (a .point) (a .slc) (named .result) (named .ensures) (a .links .now) (load .result) (load .ensures)
+    eca-acked (planAt (a .plan .now)) (a .point) (a .slc) (named .result) (named .ensures) (a .links .now) (load .result) (load .ensures)
     (cut .result) (c .ack-step .result) (c .ack-step .ensures) (cut .ensures)
 
 pub ask-eca-spec : {M : Type 1} → statement M

@@ -1,6 +1,7 @@
 -- `orders::ask::ask_eco` meets its contract: nothing of no link, and an order with ECA for its answer of one.
 -- Assumes nothing.
 use borrow.Author.Needs.{needs}
+use Rattle.planwords.specs.Words.{planAt}
 use Rattle.orders.proofs.Asking.{eco-of-none, eco-ordered}
 use Rattle.orders.proofs.ask.ask_eco.Statement.{statement}
 use Rattle.orders.proofs.ask.ask_eco.Tie as tie
@@ -15,7 +16,7 @@ returns : tie.Need-returns
 returns c =
     let named = c .before .before .link-named in
     let a = c .before .before .before .args in
-    eco-of-none (a .plan) (a .point) (a .slc) (named .result) (named .ensures) (a .links .now) (c .nothing .result)
+    eco-of-none (planAt (a .plan .now)) (a .point) (a .slc) (named .result) (named .ensures) (a .links .now) (c .nothing .result)
     (c .before .if1 .taken) (c .nothing .ensures)
 
 load-link-requires : tie.Need-load-link-requires
@@ -38,7 +39,7 @@ returns-2 c =
     let at-if = c .before .before .before .before in
     let named = at-if .before .link-named in
     let a = at-if .before .before .args in
-    eco-ordered (a .plan) (a .point) (a .slc) (named .result) (named .ensures) (a .links .now) (c .order-step .result)
+    eco-ordered (planAt (a .plan .now)) (a .point) (a .slc) (named .result) (named .ensures) (a .links .now) (c .order-step .result)
     (at-if .if1 .left) (load .result) (eca .result) (cut .result) (load .ensures) (eca .ensures) (cut .ensures)
     (c .order-step .ensures)
 

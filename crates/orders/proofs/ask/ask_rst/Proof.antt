@@ -2,6 +2,7 @@
 -- Assumes nothing.
 use borrow.Author.Needs.{needs}
 use borrow.Author.Tests.{not-true, not-false}
+use Rattle.planwords.specs.Words.{planAt}
 use Rattle.orders.proofs.Asking.{test-refused, test-answered}
 use Rattle.orders.proofs.ask.ask_rst.Statement.{statement}
 use Rattle.orders.proofs.ask.ask_rst.Tie as tie
@@ -16,7 +17,7 @@ returns : tie.Need-returns
 returns c =
     let may = c .before .before .allows in
     let a = c .before .before .before .args in
-    test-refused (a .plan) (a .links .now) (a .marks .now) (a .point) (a .x) (may .result) (may .ensures) (c .nothing .result)
+    test-refused (planAt (a .plan .now)) (a .links .now) (a .marks .now) (a .point) (a .x) (may .result) (may .ensures) (c .nothing .result)
     (not-true (may .result) (c .before .if1 .taken)) (c .nothing .ensures)
 
 answer-requires : tie.Need-answer-requires
@@ -26,7 +27,7 @@ returns-2 : tie.Need-returns-2
 returns-2 c =
     let may = c .before .before .allows in
     let a = c .before .before .before .args in
-    test-answered (a .plan) (a .links .now) (a .marks .now) (a .point) (a .x) (may .result) (may .ensures) (c .answer .result)
+    test-answered (planAt (a .plan .now)) (a .links .now) (a .marks .now) (a .point) (a .x) (may .result) (may .ensures) (c .answer .result)
     (not-false (may .result) (c .before .if1 .left)) (c .answer .ensures)
 
 pub ask-rst-spec : {M : Type 1} → statement M

@@ -3,6 +3,7 @@
 -- Assumes nothing.
 use borrow.Author.Needs.{needs}
 use borrow.Author.Tests.{not-true, not-false}
+use Rattle.planwords.specs.Words.{planAt}
 use Rattle.replies.specs.Areas.{areas}
 use Rattle.orders.proofs.Carrying.{only-taken, answer-lacking, no-end, link-ended}
 use Rattle.orders.proofs.carry.carry_out.Statement.{statement}
@@ -19,7 +20,7 @@ returns c =
     let take = c .before .take-message in
     let at-if = c .before .before .before in
     let a = at-if .before .before .before .args in
-    only-taken (a .plan) (a .step)
+    only-taken (planAt (a .plan .now)) (a .step)
     (areas (a .links .now) (a .marks .now) (a .spans .now) (a .rings .now) (a .rows .now) (a .arrivals .now) (a .reports .now))
     (a .arriving) (a .fsn) (at-if .if1 .taken) (take .last .0) (take .ensures) (c .plain .result) (c .plain .ensures)
 
@@ -39,7 +40,7 @@ returns-2 c =
     let held = give .last .1 .1 .1 in
     let at-asks = at-give .before .before .before .before .before .before .before in
     let a = at-asks .before .before .before .args in
-    answer-lacking (a .plan) (a .step)
+    answer-lacking (planAt (a .plan .now)) (a .step)
     (areas (a .links .now) (a .marks .now) (a .spans .now) (a .rings .now) (a .rows .now) (a .arrivals .now) (a .reports .now))
     (a .arriving) (a .fsn) (at-asks .if1 .left) (give .result) (held .0) (held .1 .0)
     (held .1 .1 .0) (held .1 .1 .1 .0) (give .ensures) (c .before .if2 .taken) (c .plain2 .result) (c .plain2 .ensures)
@@ -63,7 +64,7 @@ returns-3 c =
     let held = give .last .1 .1 .1 in
     let at-asks = at-give .before .before .before .before .before .before .before in
     let a = at-asks .before .before .before .args in
-    no-end (a .plan) (a .step)
+    no-end (planAt (a .plan .now)) (a .step)
     (areas (a .links .now) (a .marks .now) (a .spans .now) (a .rings .now) (a .rows .now) (a .arrivals .now) (a .reports .now))
     (a .arriving) (a .fsn) (at-asks .if1 .left) (give .result) (held .0) (held .1 .0)
     (held .1 .1 .0) (held .1 .1 .1 .0) (give .ensures) (at-lacking .if2 .left) (take .last .0) (take .ensures)
@@ -90,7 +91,7 @@ returns-4 c =
     let held = give .last .1 .1 .1 in
     let at-asks = at-give .before .before .before .before .before .before .before in
     let a = at-asks .before .before .before .args in
-    link-ended (a .plan) (a .step)
+    link-ended (planAt (a .plan .now)) (a .step)
     (areas (a .links .now) (a .marks .now) (a .spans .now) (a .rings .now) (a .rows .now) (a .arrivals .now) (a .reports .now))
     (a .arriving) (a .fsn) (at-asks .if1 .left) (give .result) (held .0) (held .1 .0)
     (held .1 .1 .0) (held .1 .1 .1 .0) (give .ensures) (at-lacking .if2 .left) (take .last .0) (take .ensures)

@@ -2,6 +2,7 @@
 -- Assumes nothing.
 use borrow.Author.Needs.{needs}
 use borrow.Author.Tests.{not-true, not-false}
+use Rattle.planwords.specs.Words.{planAt}
 use Rattle.replies.specs.Areas.{areas}
 use Rattle.orders.proofs.Carrying.{no-answer, answer-made}
 use Rattle.orders.proofs.carry.give_answer.Statement.{statement}
@@ -10,7 +11,7 @@ use Rattle.orders.proofs.carry.give_answer.Tie as tie
 returns : tie.Need-returns
 returns c =
     let a = c .before .before .before .args in
-    no-answer (a .plan) (a .step)
+    no-answer (planAt (a .plan .now)) (a .step)
     (areas (a .links .now) (a .marks .now) (a .spans .now) (a .rings .now) (a .rows .now) (a .arrivals .now) (a .reports .now))
     (not-true (a .step .answers) (c .if1 .taken))
 
@@ -23,7 +24,7 @@ returns-2 c =
     let after = m .last .1 .1 .1 in
     let at-if = c .before .before .before .before .before .before in
     let a = at-if .before .before .before .args in
-    answer-made (a .plan) (a .step)
+    answer-made (planAt (a .plan .now)) (a .step)
     (areas (a .links .now) (a .marks .now) (a .spans .now) (a .rings .now) (a .rows .now) (a .arrivals .now) (a .reports .now))
     (not-false (a .step .answers) (at-if .if1 .left)) (m .result) (after .0) (after .1 .0) (after .1 .1 .0)
     (after .1 .1 .1 .0) (m .ensures)

@@ -3,6 +3,7 @@
 use borrow.Author.Needs.{needs}
 use mathlib.Core.Path.{ap}
 use Prim.Native.Nat.{ℕ}
+use Rattle.planwords.specs.Words.{planAt}
 use Rattle.access.specs.declared.way.Direction.{Direction}
 use mathlib.Core.Bool.{true}
 use mathlib.Core.List.{[]}
@@ -12,6 +13,9 @@ use Rattle.passing.proofs.Placing.{no-way, placed}
 use Rattle.passing.proofs.Offering.{ours-refused, others-refused, offer-refused, offer-queued}
 use Rattle.passing.proofs.host.offer.Statement.{statement}
 use Rattle.passing.proofs.host.offer.Tie as tie
+
+code-requires : tie.Need-code-requires
+code-requires c κs = search needs
 
 plain-requires : tie.Need-plain-requires
 plain-requires c κs = search needs
@@ -29,8 +33,8 @@ returns : tie.Need-returns
 returns c =
     let start = c .before .before .before .before .before in
     let a = start .args in
-    offer-refused (a .plan) (a .label) (before start) (a .octets .now) (a .message .now)
-    (ours-refused (a .plan) (a .label) (before start) (c .before .if1 .taken)) (c .plain .result) (c .plain .ensures)
+    offer-refused (planAt (a .plan .now)) (a .label) (before start) (a .octets .now) (a .message .now)
+    (ours-refused (planAt (a .plan .now)) (a .label) (before start) (rw (c .before .before .before .code .ensures) at (c .before .if1 .taken))) (c .plain .result) (c .plain .ensures)
 
 for-users-requires : tie.Need-for-users-requires
 for-users-requires c κs = search needs
@@ -48,9 +52,9 @@ returns-2 c =
     let at-if = c .before .before .before .before .before in
     let start = at-if .before .before .before .before in
     let a = start .args in
-    offer-refused (a .plan) (a .label) (before start) (a .octets .now) (a .message .now)
-    (others-refused (a .plan) (a .label) (before start) (at-if .if1 .left) true
-    (no-way (a .plan) (before start) (a .label) (need .result) (need .ensures) (to .result .link) (ap the-link (to .ensures)) (c .before .if2 .taken)))
+    offer-refused (planAt (a .plan .now)) (a .label) (before start) (a .octets .now) (a .message .now)
+    (others-refused (planAt (a .plan .now)) (a .label) (before start) (rw (at-if .before .before .code .ensures) at (at-if .if1 .left)) true
+    (no-way (planAt (a .plan .now)) (before start) (a .label) (need .result) (need .ensures) (to .result .link) (ap the-link (to .ensures)) (c .before .if2 .taken)))
     (c .plain2 .result) (c .plain2 .ensures)
 
 ring-of-requires : tie.Need-ring-of-requires
@@ -73,12 +77,12 @@ returns-3 c =
     let start = at-if .before .before .before .before in
     let a = start .args in
     let l = q .last in
-    offer-queued (a .plan) (a .label) (before start) (a .octets .now) (a .message .now) (at-if .if1 .left) (q .result)
+    offer-queued (planAt (a .plan .now)) (a .label) (before start) (a .octets .now) (a .message .now) (rw (at-if .before .before .code .ensures) at (at-if .if1 .left)) (q .result)
     (areas (a .links .now) (a .marks .now) (l .0) (l .1 .0) (l .1 .1 .0) (l .1 .1 .1 .1 .0) [])
     (l .1 .1 .1 .0)
-    (placed (a .plan) (before start) (a .label) (a .octets .now) (a .message .now) (need .result) (need .ensures) (to .result .link)
+    (placed (planAt (a .plan .now)) (before start) (a .label) (a .octets .now) (a .message .now) (need .result) (need .ensures) (to .result .link)
     (ap the-link (to .ensures)) (at-ring .before .if2 .left) (ring .result)
-    (ring-there (a .plan) (a .links .now) (a .marks .now) (need .result) (a .label) (to .result) (to .ensures) (ring .result) (ring .ensures)) (q .result) (l .0) (l .1 .0) (l .1 .1 .0)
+    (ring-there (planAt (a .plan .now)) (a .links .now) (a .marks .now) (need .result) (a .label) (to .result) (to .ensures) (ring .result) (ring .ensures)) (q .result) (l .0) (l .1 .0) (l .1 .1 .0)
     (l .1 .1 .1 .0) (l .1 .1 .1 .1 .0) (q .ensures))
     (c .plain3 .result) (c .plain3 .ensures)
 
@@ -86,6 +90,7 @@ pub offer-spec : {M : Type 1} → statement M
 offer-spec =
     tie.close
     (tie.spec
+    code-requires
     plain-requires
     returns
     for-users-requires

@@ -3,9 +3,10 @@
 use borrow.Author.Needs.{needs}
 use borrow.Author.Tests.{not-true, not-false}
 use mathlib.Core.List.{[]}
-use mathlib.Core.Path.{_≡_, refl}
+use mathlib.Core.Path.{_≡_, refl, sym, _∙_}
 use Prim.Native.Nat.{ℕ}
 use lib.ListN.{length}
+use Rattle.planwords.specs.Words.{planAt}
 use Rattle.discrimination.specs.declared.Came.{Came}
 use Rattle.discrimination.specs.declared.Came.the-variants.{Malformed, Foreign, Delivered, Managed, Passed}
 use Rattle.replies.specs.declared.Answer.{Answer}
@@ -15,6 +16,9 @@ use Rattle.passing.specs.Host.{fromHostBy, octetsBy}
 use Rattle.passing.proofs.Offering.{SendLeaves, no-node, by-kind, kind-refused}
 use Rattle.passing.proofs.host.send_host.Statement.{statement}
 use Rattle.passing.proofs.host.send_host.Tie as tie
+
+given-requires : tie.Need-given-requires
+given-requires c κs = search needs
 
 plain-requires : tie.Need-plain-requires
 plain-requires c κs = search needs
@@ -29,7 +33,8 @@ returns : tie.Need-returns
 returns c =
     let start = c .before .before .before .before in
     let a = start .args in
-    no-node (a .plan) (a .octets .now) (a .message .now) (before start) (not-true (a .plan .given) (c .before .if1 .taken))
+    let given = c .before .before .given in
+    no-node (planAt (a .plan .now)) (a .octets .now) (a .message .now) (before start) (sym (given .ensures) ∙ not-true (given .result) (c .before .if1 .taken))
     (c .plain .result) (c .plain .ensures)
 
 from-host-requires : tie.Need-from-host-requires
@@ -75,7 +80,8 @@ returns-2 c =
     let start = at-if .before .before .before in
     let a = start .args in
     let l = o .last .1 .1 .1 in
-    by-kind (a .plan) (a .octets .now) (a .message .now) (before start) (not-false (a .plan .given) (at-if .if1 .left))
+    let given = at-if .before .given in
+    by-kind (planAt (a .plan .now)) (a .octets .now) (a .message .now) (before start) (sym (given .ensures) ∙ not-false (given .result) (at-if .if1 .left))
     (at-came .from-host .result) (at-came .from-host .ensures) (Passed (label .given .0 .0)) (label .given .1) (o .result)
     (areas (a .links .now) (a .marks .now) (l .0) (l .1 .0) (l .1 .1 .0) (l .1 .1 .1 .1 .0) [])
     (l .1 .1 .1 .0)
@@ -85,14 +91,15 @@ returns-2 c =
 refused-as : (c : tie.After-from-host) (kind : Came) → c .from-host .result ≡ kind → (reply : ℕ)
     → let start = c .before .before .before .before in
     let a = start .args in
-    refused reply (before start) ≡ fromHostBy (a .plan) kind (length (a .message .now)) (before start)
-    → a .octets .now ≡ octetsBy (a .plan) kind (before start) (a .octets .now) (a .message .now)
+    refused reply (before start) ≡ fromHostBy (planAt (a .plan .now)) kind (length (a .message .now)) (before start)
+    → a .octets .now ≡ octetsBy (planAt (a .plan .now)) kind (before start) (a .octets .now) (a .message .now)
     → (answer : Answer) → answer ≡ plain reply
-    → SendLeaves (a .plan) (a .octets .now) (a .message .now) (before start) answer (before start) (a .octets .now)
+    → SendLeaves (planAt (a .plan .now)) (a .octets .now) (a .message .now) (before start) answer (before start) (a .octets .now)
 refused-as c kind told reply =
     let start = c .before .before .before .before in
     let a = start .args in
-    kind-refused (a .plan) (a .octets .now) (a .message .now) (before start) (not-false (a .plan .given) (c .before .if1 .left))
+    let given = c .before .before .given in
+    kind-refused (planAt (a .plan .now)) (a .octets .now) (a .message .now) (before start) (sym (given .ensures) ∙ not-false (given .result) (c .before .if1 .left))
     (c .from-host .result) (c .from-host .ensures) kind told reply
 
 returns-3 : tie.Need-returns-3
@@ -119,6 +126,7 @@ pub send-host-spec : {M : Type 1} → statement M
 send-host-spec =
     tie.close
     (tie.spec
+    given-requires
     plain-requires
     returns
     from-host-requires

@@ -5,6 +5,7 @@ use borrow.Author.Tests.{not-true, not-false}
 use mathlib.Core.Bool.{true, false}
 use mathlib.Core.Logic.{⊎-elim}
 use mathlib.Core.Path.{_≡_, sym, _∙_}
+use Rattle.planwords.specs.Words.{planAt}
 use Rattle.replies.specs.Areas.{Areas, areas}
 use Rattle.making.specs.Make.{Held, held}
 use Rattle.passing.specs.Pass.{marksTold}
@@ -34,7 +35,7 @@ returns c =
     let due = at-if .before .tells in
     let start = at-if .before .before .before .before in
     let a = start .args in
-    only-taken (a .plan) (before start) (a .arriving) (a .fsn) (a .x)
+    only-taken (planAt (a .plan .now)) (before start) (a .arriving) (a .fsn) (a .x)
     (sym (due .ensures) ∙ not-true (due .result) (at-if .if1 .taken)) (take .last .0) (take .ensures) (c .plain .result) (c .plain .ensures)
 
 prohibited-to-requires : tie.Need-prohibited-to-requires
@@ -56,7 +57,7 @@ start-of c = c .before .before .before .before .before .before .before .before .
 
 -- the TFP was asked for
 tfp-asked : (c : tie.After-make)
-    → let a = start-of c .args in Asked (a .plan) (before (start-of c)) (a .arriving) (a .x) (c .make .result) (now-held c)
+    → let a = start-of c .args in Asked (planAt (a .plan .now)) (before (start-of c)) (a .arriving) (a .x) (c .make .result) (now-held c)
 tfp-asked c =
     let at-draft = c .before .before .before .before .before .before .before in
     let draft = at-draft .prohibited-to in
@@ -64,7 +65,7 @@ tfp-asked c =
     let start = start-of c in
     let a = start .args in
     let h = c .make .last .1 .1 .1 in
-    asked (a .plan) (before start) (a .arriving) (a .x)
+    asked (planAt (a .plan .now)) (before start) (a .arriving) (a .x)
     (sym (due .ensures) ∙ not-false (due .result) (at-draft .before .if1 .left)) (draft .result) (draft .ensures) (c .make .result)
     (h .0) (h .1 .0) (h .1 .1 .0) (h .1 .1 .1 .0) (c .make .ensures)
 
@@ -73,7 +74,7 @@ returns-2 c =
     let at-make = c .before .before .before in
     let start = start-of at-make in
     let a = start .args in
-    not-told (a .plan) (before start) (a .arriving) (a .fsn) (a .x) (at-make .make .result) (now-held at-make) (tfp-asked at-make)
+    not-told (planAt (a .plan .now)) (before start) (a .arriving) (a .fsn) (a .x) (at-make .make .result) (now-held at-make) (tfp-asked at-make)
     (c .before .if2 .taken) (c .plain2 .result) (c .plain2 .ensures)
 
 start-t8-requires : tie.Need-start-t8-requires
@@ -82,13 +83,13 @@ start-t8-requires c κs = search needs
 -- the flags, with T8 started if the TFP was made
 marks-now : (c : tie.Joined3)
     → let start = start-of (c .before .before .before) in
-    c .if3 .marks ≡ marksTold (start .args .plan) (before start) (start .args .arriving) (start .args .x)
+    c .if3 .marks ≡ marksTold (planAt (start .args .plan .now)) (before start) (start .args .arriving) (start .args .x)
 marks-now c =
     let at-make = c .before .before .before in
     let start = start-of at-make in
     let a = start .args in
     let by-made =
-    marks-are (a .plan) (before start) (a .arriving) (a .fsn) (a .x) (at-make .make .result) (now-held at-make) (tfp-asked at-make)
+    marks-are (planAt (a .plan .now)) (before start) (a .arriving) (a .fsn) (a .x) (at-make .make .result) (now-held at-make) (tfp-asked at-make)
     in
     ⊎-elim (λ w. w .3 ∙ w .2 .ensures ∙ by-made true (w .0 .taken)) (λ w. w .1 ∙ by-made false (w .0 .left)) (c .if3 .came)
 
@@ -105,7 +106,7 @@ returns-3 c =
     let at-make = at-join .before .before .before in
     let start = start-of at-make in
     let a = start .args in
-    is-told (a .plan) (before start) (a .arriving) (a .fsn) (a .x) (at-make .make .result) (now-held at-make) (tfp-asked at-make)
+    is-told (planAt (a .plan .now)) (before start) (a .arriving) (a .fsn) (a .x) (at-make .make .result) (now-held at-make) (tfp-asked at-make)
     (at-join .before .if2 .left) (at-join .if3 .marks) (marks-now at-join) (take .last .0) (take .ensures) (c .plain3 .result) (c .plain3 .ensures)
 
 pub not-reached-spec : {M : Type 1} → statement M

@@ -3,6 +3,7 @@
 use borrow.Author.Needs.{needs}
 use mathlib.Core.Path.{ap}
 use Prim.Native.Nat.{ℕ}
+use Rattle.planwords.specs.Words.{planAt}
 use Rattle.access.specs.declared.way.Direction.{Direction}
 use Rattle.replies.specs.Areas.{Areas, areas}
 use Rattle.passing.proofs.Flagged.{ring-there}
@@ -37,8 +38,8 @@ returns c =
     let start = at-if .before .before .before .before .before .before .before .before in
     let a = start .args in
     let l = r .last .1 in
-    passed-nowhere (a .plan) (a .arriving) (a .fsn) (a .label) (before start) (a .octets .now) (a .message .now)
-    (no-way (a .plan) (before start) (a .label) (need .result) (need .ensures) (to .result .link) (ap the-link (to .ensures)) (at-if .if1 .taken))
+    passed-nowhere (planAt (a .plan .now)) (a .arriving) (a .fsn) (a .label) (before start) (a .octets .now) (a .message .now)
+    (no-way (planAt (a .plan .now)) (before start) (a .label) (need .result) (need .ensures) (to .result .link) (ap the-link (to .ensures)) (at-if .if1 .taken))
     (r .result)
     (areas (l .0) (l .1 .0) (l .1 .1 .0) (l .1 .1 .1 .0) (l .1 .1 .1 .1 .0) (l .1 .1 .1 .1 .1 .0) (a .reports .now))
     (r .ensures)
@@ -63,7 +64,7 @@ after c =
 -- a place was asked for
 place-asked : (c : tie.After-queue-user)
     → let a = start-of c .args in
-    Placed (a .plan) (before (start-of c)) (a .label) (a .octets .now) (a .message .now) (c .queue-user .result) (after c)
+    Placed (planAt (a .plan .now)) (before (start-of c)) (a .label) (a .octets .now) (a .message .now) (c .queue-user .result) (after c)
     (c .queue-user .last .1 .1 .1 .0)
 place-asked c =
     let at-ring = c .before .before .before .before .before .before in
@@ -74,9 +75,9 @@ place-asked c =
     let start = start-of c in
     let a = start .args in
     let l = c .queue-user .last in
-    placed (a .plan) (before start) (a .label) (a .octets .now) (a .message .now) (need .result) (need .ensures) (to .result .link)
+    placed (planAt (a .plan .now)) (before start) (a .label) (a .octets .now) (a .message .now) (need .result) (need .ensures) (to .result .link)
     (ap the-link (to .ensures)) (at-if .if1 .left) (ring .result)
-    (ring-there (a .plan) (a .links .now) (a .marks .now) (need .result) (a .label) (to .result) (to .ensures) (ring .result) (ring .ensures)) (c .queue-user .result) (l .0) (l .1 .0) (l .1 .1 .0)
+    (ring-there (planAt (a .plan .now)) (a .links .now) (a .marks .now) (need .result) (a .label) (to .result) (to .ensures) (ring .result) (ring .ensures)) (c .queue-user .result) (l .0) (l .1 .0) (l .1 .1 .0)
     (l .1 .1 .1 .0) (l .1 .1 .1 .1 .0) (c .queue-user .ensures)
 
 plain-requires : tie.Need-plain-requires
@@ -87,7 +88,7 @@ returns-2 c =
     let at-place = c .before .before in
     let start = start-of at-place in
     let a = start .args in
-    passed-lacking (a .plan) (a .arriving) (a .fsn) (a .label) (before start) (a .octets .now) (a .message .now)
+    passed-lacking (planAt (a .plan .now)) (a .arriving) (a .fsn) (a .label) (before start) (a .octets .now) (a .message .now)
     (at-place .queue-user .result) (after at-place) (at-place .queue-user .last .1 .1 .1 .0) (place-asked at-place) (c .before .if2 .taken)
     (c .plain .result) (c .plain .ensures)
 
@@ -104,7 +105,7 @@ returns-3 c =
     let at-place = at-if .before in
     let start = start-of at-place in
     let a = start .args in
-    passed-on (a .plan) (a .arriving) (a .fsn) (a .label) (before start) (a .octets .now) (a .message .now)
+    passed-on (planAt (a .plan .now)) (a .arriving) (a .fsn) (a .label) (before start) (a .octets .now) (a .message .now)
     (at-place .queue-user .result) (after at-place) (at-place .queue-user .last .1 .1 .1 .0) (place-asked at-place) (at-if .if2 .left)
     (take .last .0) (take .ensures) (c .done .result) (c .done .ensures)
 

@@ -2,6 +2,7 @@
 -- Assumes nothing.
 use borrow.Author.Needs.{needs}
 use borrow.Author.Tests.{not-true, not-false}
+use Rattle.planwords.specs.Words.{planAt}
 use Rattle.passing.proofs.Flagged.{not-configured, by-t8}
 use Rattle.passing.proofs.pass.tells.Statement.{statement}
 use Rattle.passing.proofs.pass.tells.Tie as tie
@@ -13,7 +14,7 @@ returns : tie.Need-returns
 returns c =
     let found = c .before .before .find in
     let a = c .before .before .before .args in
-    not-configured (a .plan) (a .marks .now) (a .x) (found .result) (found .ensures) (not-true (found .result .given) (c .if1 .taken))
+    not-configured (planAt (a .plan .now)) (a .marks .now) (a .x) (found .result) (found .ensures) (not-true (found .result .given) (c .if1 .taken))
 
 flag-requires : tie.Need-flag-requires
 flag-requires c κs = search needs
@@ -23,7 +24,7 @@ returns-2 c =
     let at-if = c .before in
     let found = at-if .before .before .find in
     let a = at-if .before .before .before .args in
-    by-t8 (a .plan) (a .marks .now) (a .x) (found .result) (found .ensures) (not-false (found .result .given) (at-if .if1 .left))
+    by-t8 (planAt (a .plan .now)) (a .marks .now) (a .x) (found .result) (found .ensures) (not-false (found .result .given) (at-if .if1 .left))
     (c .flag .result) (c .flag .ensures)
 
 pub tells-spec : {M : Type 1} → statement M

@@ -4,6 +4,7 @@ use borrow.Author.Needs.{needs}
 use mathlib.Core.Bool.{Bool, true, false, cond, not}
 use mathlib.Core.Path.{_≡_, ap}
 use native.Mathlib.Omega.{arith}
+use Rattle.planwords.specs.Words.{planAt}
 use Rattle.plan.specs.declared.find.Found.{Found}
 use Rattle.rerouting.specs.Mark.{counts}
 use Rattle.rerouting.proofs.Marking.{about-itself, about-us, no-route, by-mark}
@@ -13,13 +14,16 @@ use Rattle.rerouting.proofs.mark.counts.Tie as tie
 returns : tie.Need-returns
 returns c =
     let a = c .before .args in
-    about-itself (a .plan) (a .marks .now) (a .point) (a .x) (a .prohibits) (c .if1 .taken)
+    about-itself (planAt (a .plan .now)) (a .marks .now) (a .point) (a .x) (a .prohibits) (c .if1 .taken)
+
+code-requires : tie.Need-code-requires
+code-requires c κs = search needs
 
 returns-2 : tie.Need-returns-2
 returns-2 c =
     let other = c .before .before in
     let a = other .before .args in
-    about-us (a .plan) (a .marks .now) (a .point) (a .x) (a .prohibits) (other .if1 .left) (c .if2 .taken)
+    about-us (planAt (a .plan .now)) (a .marks .now) (a .point) (a .x) (a .prohibits) (other .if1 .left) (rw (c .before .code .ensures) at (c .if2 .taken))
 
 rank-for-requires : tie.Need-rank-for-requires
 rank-for-requires c κs = search needs
@@ -30,7 +34,7 @@ returns-3 c =
     let not-us = c .before .before in
     let other = not-us .before .before in
     let a = other .before .args in
-    no-route (a .plan) (a .marks .now) (a .point) (a .x) (a .prohibits) (other .if1 .left) (not-us .if2 .left) (rank .result)
+    no-route (planAt (a .plan .now)) (a .marks .now) (a .point) (a .x) (a .prohibits) (other .if1 .left) (rw (not-us .before .code .ensures) at (not-us .if2 .left)) (rank .result)
     (rank .ensures) (c .if3 .taken)
 
 find-requires : tie.Need-find-requires
@@ -43,7 +47,7 @@ flag-requires c κs = search needs
 by-told : (c : tie.After-flag) (said : Bool)
     → let a = c .before .before .before .before .before .before .before .args in
     a .prohibits ≡ said
-    → cond said (not (c .flag .result)) (c .flag .result) ≡ counts (a .plan) (a .marks .now) (a .point) (a .x) (a .prohibits)
+    → cond said (not (c .flag .result)) (c .flag .result) ≡ counts (planAt (a .plan .now)) (a .marks .now) (a .point) (a .x) (a .prohibits)
 by-told c said e =
     let found = c .before .find in
     let near = c .before .before in
@@ -51,7 +55,7 @@ by-told c said e =
     let not-us = near .before .before in
     let other = not-us .before .before in
     let a = other .before .args in
-    by-mark (a .plan) (a .marks .now) (a .point) (a .x) (a .prohibits) (other .if1 .left) (not-us .if2 .left) (rank .result)
+    by-mark (planAt (a .plan .now)) (a .marks .now) (a .point) (a .x) (a .prohibits) (other .if1 .left) (rw (not-us .before .code .ensures) at (not-us .if2 .left)) (rank .result)
     (rank .ensures) (omega (arith, near .if3 .left)) (found .result .place) (ap (λ (f : Found). f .place) (found .ensures))
     (c .flag .result) (c .flag .ensures) said e
 
@@ -66,6 +70,7 @@ counts-spec =
     tie.close
     (tie.spec
     returns
+    code-requires
     returns-2
     rank-for-requires
     returns-3

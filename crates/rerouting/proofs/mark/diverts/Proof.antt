@@ -3,6 +3,7 @@
 use borrow.Author.Needs.{needs}
 use borrow.Author.Tests.{not-true, not-false}
 use mathlib.Core.Path.{ap}
+use Rattle.planwords.specs.Words.{planAt}
 use Rattle.plan.specs.declared.find.Found.{Found}
 use Rattle.rerouting.proofs.Marking.{of-a-tfp, no-access, by-sets}
 use Rattle.rerouting.proofs.mark.diverts.Statement.{statement}
@@ -11,7 +12,7 @@ use Rattle.rerouting.proofs.mark.diverts.Tie as tie
 returns : tie.Need-returns
 returns c =
     let a = c .before .args in
-    of-a-tfp (a .plan) (a .links .now) (a .before .now) (a .after .now) (a .x) (a .prohibits) (c .if1 .taken)
+    of-a-tfp (planAt (a .plan .now)) (a .links .now) (a .before .now) (a .after .now) (a .x) (a .prohibits) (c .if1 .taken)
 
 find-requires : tie.Need-find-requires
 find-requires c κs = search needs
@@ -25,7 +26,7 @@ returns-2 c =
     let found = c .before .before .find in
     let tfa = c .before .before .before in
     let a = tfa .before .args in
-    no-access (a .plan) (a .links .now) (a .before .now) (a .after .now) (a .x) (a .prohibits) (tfa .if1 .left)
+    no-access (planAt (a .plan .now)) (a .links .now) (a .before .now) (a .after .now) (a .x) (a .prohibits) (tfa .if1 .left)
     (found .result .place) (ap (λ (f : Found). f .place) (found .ensures)) (access .result) (access .ensures)
     (not-true (access .result) (c .if2 .taken))
 
@@ -44,7 +45,7 @@ returns-3 c =
     let found = there .before .before .find in
     let tfa = there .before .before .before in
     let a = tfa .before .args in
-    by-sets (a .plan) (a .links .now) (a .before .now) (a .after .now) (a .x) (a .prohibits) (tfa .if1 .left)
+    by-sets (planAt (a .plan .now)) (a .links .now) (a .before .now) (a .after .now) (a .x) (a .prohibits) (tfa .if1 .left)
     (found .result .place) (ap (λ (f : Found). f .place) (found .ensures)) (access .result) (access .ensures)
     (not-false (access .result) (there .if2 .left)) (was .result) (then .result) (was .ensures) (then .ensures)
 

@@ -3,6 +3,7 @@
 use borrow.Author.Needs.{needs}
 use mathlib.Core.Bool.{Bool, true, false, cond}
 use mathlib.Core.Path.{_≡_, ap, _∙_}
+use Rattle.planwords.specs.Words.{planAt}
 use Rattle.plan.specs.declared.find.Found.{Found}
 use Rattle.rows.specs.Rows.{withFlag}
 use Rattle.rerouting.specs.Mark.{marksAfter}
@@ -30,13 +31,13 @@ by-told : (c : tie.After-diverts) (said : Bool) → c .diverts .result ≡ said
     → let set = c .before .before .before in
     let a = set .before .before .before .before .before .args in
     cond said (withFlag (set .set-flag .last .0) (set .before .before .before .find .result .place) 4 true) (set .set-flag .last .0)
-    ≡ marksAfter (a .plan) (a .links .now) (a .marks .now) (a .point) (a .x) (a .prohibits)
+    ≡ marksAfter (planAt (a .plan .now)) (a .links .now) (a .marks .now) (a .point) (a .x) (a .prohibits)
 by-told c said e =
     let set = c .before .before .before in
     let rank = set .before .before .rank-for in
     let found = set .before .before .before .find in
     let a = set .before .before .before .before .before .args in
-    marks-if (a .plan) (a .links .now) (a .marks .now) (a .point) (a .x) (a .prohibits) (found .result .place)
+    marks-if (planAt (a .plan .now)) (a .links .now) (a .marks .now) (a .point) (a .x) (a .prohibits) (found .result .place)
     (ap (λ (f : Found). f .place) (found .ensures)) (rank .result) (rank .ensures) (set .set-flag .last .0)
     (set .set-flag .ensures) (c .diverts .result) (c .diverts .ensures) said e
 

@@ -4,6 +4,7 @@ use borrow.Author.Needs.{needs}
 use borrow.Author.Tests.{not-true, not-false}
 use mathlib.Core.Path.{ap, _∙_}
 use native.Mathlib.Omega.{arith}
+use Rattle.planwords.specs.Words.{planAt}
 use Rattle.plan.specs.declared.find.Found.{Found}
 use Rattle.rerouting.proofs.Marking.{no-set, not-found, rank-found}
 use Rattle.rerouting.proofs.mark.rank_for.Statement.{statement}
@@ -16,7 +17,7 @@ returns : tie.Need-returns
 returns c =
     let set = c .before .set-to in
     let a = c .before .before .args in
-    no-set (a .plan) (a .point) (a .x) (set .result) (set .ensures) (c .if1 .taken)
+    no-set (planAt (a .plan .now)) (a .point) (a .x) (set .result) (set .ensures) (c .if1 .taken)
 
 find-requires : tie.Need-find-requires
 find-requires c κs = search needs
@@ -27,7 +28,7 @@ returns-2 c =
     let inside = c .before .before .before in
     let set = inside .before .set-to in
     let a = inside .before .before .args in
-    not-found (a .plan) (a .point) (a .x) (set .result) (set .ensures) (omega (arith, inside .if1 .left)) (found .result .given)
+    not-found (planAt (a .plan .now)) (a .point) (a .x) (set .result) (set .ensures) (omega (arith, inside .if1 .left)) (found .result .given)
     (ap (λ (f : Found). f .given) (found .ensures)) (not-true (found .result .given) (c .if2 .taken))
 
 rank-by-requires : tie.Need-rank-by-requires
@@ -41,7 +42,7 @@ returns-3 c =
     let set = inside .before .set-to in
     let a = inside .before .before .args in
     c .rank-by .ensures
-    ∙ rank-found (a .plan) (a .point) (a .x) (set .result) (set .ensures) (omega (arith, inside .if1 .left)) (found .result .given)
+    ∙ rank-found (planAt (a .plan .now)) (a .point) (a .x) (set .result) (set .ensures) (omega (arith, inside .if1 .left)) (found .result .given)
     (ap (λ (f : Found). f .given) (found .ensures)) (not-false (found .result .given) (there .if2 .left)) (found .result .place)
     (ap (λ (f : Found). f .place) (found .ensures))
 

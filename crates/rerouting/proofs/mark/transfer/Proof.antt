@@ -2,6 +2,7 @@
 -- Assumes nothing.
 use borrow.Author.Needs.{needs}
 use borrow.Author.Tests.{not-true, not-false}
+use Rattle.planwords.specs.Words.{planAt}
 use Rattle.replies.specs.Areas.{areas}
 use Rattle.rerouting.proofs.Marking.{no-effect, takes-effect}
 use Rattle.rerouting.proofs.mark.transfer.Statement.{statement}
@@ -22,7 +23,7 @@ returns c =
     let test = c .before .before .before in
     let counts = test .before .counts in
     let a = test .before .before .before .before .args in
-    no-effect (a .plan) (a .arriving) (a .fsn) (a .point) (a .x) (a .prohibits)
+    no-effect (planAt (a .plan .now)) (a .arriving) (a .fsn) (a .point) (a .x) (a .prohibits)
     (areas (a .links .now) (a .marks .now) (a .spans .now) (a .rings .now) (a .rows .now) (a .arrivals .now) (a .reports .now))
     (counts .result) (counts .ensures) (take .last .0) (take .ensures) (not-true (counts .result) (test .if1 .taken))
     (c .plain .result) (c .plain .ensures)
@@ -57,7 +58,7 @@ returns-2 c =
     let test = at-table .before .before .before in
     let counts = test .before .counts in
     let a = test .before .before .before .before .args in
-    takes-effect (a .plan) (a .arriving) (a .fsn) (a .point) (a .x) (a .prohibits)
+    takes-effect (planAt (a .plan .now)) (a .arriving) (a .fsn) (a .point) (a .x) (a .prohibits)
     (areas (a .links .now) (a .marks .now) (a .spans .now) (a .rings .now) (a .rows .now) (a .arrivals .now) (a .reports .now))
     (counts .result) (counts .ensures) (take .last .0) (take .ensures) (not-false (counts .result) (test .if1 .left))
     (table .result) (table .ensures) (mark .last .1 .1 .0) (mark .ensures) (told .result) (told .last .1 .1 .1 .1 .0)

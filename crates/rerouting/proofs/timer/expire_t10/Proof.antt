@@ -2,6 +2,7 @@
 -- Assumes nothing.
 use borrow.Author.Needs.{needs}
 use mathlib.Core.List.{[]}
+use Rattle.planwords.specs.Words.{planAt}
 use Rattle.replies.specs.Areas.{areas}
 use Rattle.rerouting.proofs.Expiring.{t10-refused, t10-sends}
 use Rattle.rerouting.proofs.timer.expire_t10.Statement.{statement}
@@ -17,7 +18,7 @@ returns : tie.Need-returns
 returns c =
     let reply = c .before .before .t10-reply in
     let a = c .before .before .before .args in
-    t10-refused (a .plan)
+    t10-refused (planAt (a .plan .now))
     (areas (a .links .now) (a .marks .now) (a .spans .now) (a .rings .now) (a .rows .now) (a .arrivals .now) []) (a .x) (a .set)
     (reply .result) (reply .ensures) (c .before .if1 .taken) (c .plain .result) (c .plain .ensures)
 
@@ -39,7 +40,7 @@ returns-2 c =
     let none = at-test .before in
     let reply = none .before .t10-reply in
     let a = none .before .before .args in
-    t10-sends (a .plan)
+    t10-sends (planAt (a .plan .now))
     (areas (a .links .now) (a .marks .now) (a .spans .now) (a .rings .now) (a .rows .now) (a .arrivals .now) []) (a .x) (a .set)
     (reply .result) (reply .ensures) (none .if1 .left) (test .result) (test .ensures) (sent .result) (held .0) (held .1 .0)
     (held .1 .1 .0) (held .1 .1 .1 .0) (sent .ensures) (c .plain2 .result) (c .plain2 .ensures)

@@ -3,6 +3,7 @@
 use borrow.Author.Needs.{needs}
 use mathlib.Core.List.{[]}
 use mathlib.Core.Path.{ap}
+use Rattle.planwords.specs.Words.{planAt}
 use Rattle.plan.specs.declared.find.Found.{Found}
 use Rattle.replies.specs.Areas.{areas}
 use Rattle.rerouting.proofs.Expiring.{t6-short, t6-refused, t6-ends}
@@ -22,7 +23,7 @@ returns : tie.Need-returns
 returns c =
     let short = c .before .before .short in
     let a = c .before .before .before .before .before .args in
-    t6-short (a .plan)
+    t6-short (planAt (a .plan .now))
     (areas (a .links .now) (a .marks .now) (a .spans .now) (a .rings .now) (a .rows .now) [] (a .reports .now)) (a .x)
     (short .result) (short .ensures) (c .before .if1 .taken) (c .plain .result) (c .plain .ensures)
 
@@ -41,7 +42,7 @@ returns-2 c =
     let long = c .before .before .before .before in
     let short = long .before .short in
     let a = long .before .before .before .before .args in
-    t6-refused (a .plan)
+    t6-refused (planAt (a .plan .now))
     (areas (a .links .now) (a .marks .now) (a .spans .now) (a .rings .now) (a .rows .now) [] (a .reports .now)) (a .x)
     (short .result) (short .ensures) (long .if1 .left) (reply .result) (reply .ensures) (c .before .if2 .taken) (c .plain2 .result)
     (c .plain2 .ensures)
@@ -73,7 +74,7 @@ returns-3 c =
     let long = none .before .before .before in
     let short = long .before .short in
     let a = long .before .before .before .before .args in
-    t6-ends (a .plan)
+    t6-ends (planAt (a .plan .now))
     (areas (a .links .now) (a .marks .now) (a .spans .now) (a .rings .now) (a .rows .now) [] (a .reports .now)) (a .x)
     (short .result) (short .ensures) (long .if1 .left) (reply .result) (reply .ensures) (none .if2 .left) (found .result .place)
     (ap (λ (f : Found). f .place) (found .ensures)) (flag .last .0) (flag .ensures) (after .0) (after .1 .0)

@@ -2,6 +2,7 @@
 -- Assumes nothing.
 use borrow.Author.Needs.{needs}
 use mathlib.Core.Path.{sym, ap, _∙_}
+use Rattle.planwords.specs.Words.{planAt}
 use Rattle.plan.specs.declared.find.Found.{Found}
 use Rattle.replies.proofs.Rows.{refused, done}
 use Rattle.rerouting.proofs.Expiring.{t8-refused, t8-stops}
@@ -15,7 +16,7 @@ returns : tie.Need-returns
 returns c =
     let reply = c .before .timer-reply in
     let a = c .before .before .before .args in
-    (reply .ensures, t8-refused (a .plan) (a .marks .now) (a .x) (refused _ _ (reply .ensures) (c .if1 .taken)))
+    (reply .ensures, t8-refused (planAt (a .plan .now)) (a .marks .now) (a .x) (refused _ _ (reply .ensures) (c .if1 .taken)))
 
 find-requires : tie.Need-find-requires
 find-requires c κs = search needs
@@ -32,7 +33,7 @@ returns-2 c =
     let nothing = done _ _ (reply .ensures) (test .if1 .left) in (
       sym nothing,
       c .set-flag .ensures
-          ∙ t8-stops (a .plan) (a .marks .now) (a .x) nothing (found .result .place)
+          ∙ t8-stops (planAt (a .plan .now)) (a .marks .now) (a .x) nothing (found .result .place)
           (ap (λ (f : Found). f .place) (found .ensures)),
     )
 

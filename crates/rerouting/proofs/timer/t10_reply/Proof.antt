@@ -5,6 +5,7 @@ use borrow.Author.Tests.{not-true, not-false}
 use mathlib.Core.Bool.{Bool, true, false, cond}
 use mathlib.Core.Path.{_≡_, ap}
 use native.Mathlib.Omega.{arith}
+use Rattle.planwords.specs.Words.{planAt}
 use Rattle.plan.specs.declared.find.Found.{Found}
 use Rattle.rerouting.specs.Timer.{replyT10}
 use Rattle.rerouting.proofs.Replying.{t10-no-code, t10-past-the-last-set, t10-no-destination, t10-no-set, t10-no-route, t10-by-mark}
@@ -14,12 +15,12 @@ use Rattle.rerouting.proofs.timer.t10_reply.Tie as tie
 returns : tie.Need-returns
 returns c =
     let a = c .before .args in
-    t10-no-code (a .plan) (a .marks .now) (a .x) (a .set) (c .if1 .taken)
+    t10-no-code (planAt (a .plan .now)) (a .marks .now) (a .x) (a .set) (c .if1 .taken)
 
 returns-2 : tie.Need-returns-2
 returns-2 c =
     let a = c .before .before .args in
-    t10-past-the-last-set (a .plan) (a .marks .now) (a .x) (a .set) (c .if2 .taken)
+    t10-past-the-last-set (planAt (a .plan .now)) (a .marks .now) (a .x) (a .set) (c .if2 .taken)
 
 is-destination-requires : tie.Need-is-destination-requires
 is-destination-requires c κs = search needs
@@ -29,7 +30,7 @@ returns-3 c =
     let is = c .before .is-destination in
     let tests = c .before .before in
     let a = tests .before .before .args in
-    t10-no-destination (a .plan) (a .marks .now) (a .x) (a .set) (omega (arith, tests .before .if1 .left))
+    t10-no-destination (planAt (a .plan .now)) (a .marks .now) (a .x) (a .set) (omega (arith, tests .before .if1 .left))
     (omega (arith, tests .if2 .left)) (is .result) (is .ensures) (not-true (is .result) (c .if3 .taken))
 
 is-set-requires : tie.Need-is-set-requires
@@ -42,7 +43,7 @@ returns-4 c =
     let is = there .before .is-destination in
     let tests = there .before .before in
     let a = tests .before .before .args in
-    t10-no-set (a .plan) (a .marks .now) (a .x) (a .set) (omega (arith, tests .before .if1 .left))
+    t10-no-set (planAt (a .plan .now)) (a .marks .now) (a .x) (a .set) (omega (arith, tests .before .if1 .left))
     (omega (arith, tests .if2 .left)) (is .result) (is .ensures) (not-false (is .result) (there .if3 .left)) (given .result)
     (given .ensures) (not-true (given .result) (c .if4 .taken))
 
@@ -62,7 +63,7 @@ returns-5 c =
     let is = there .before .is-destination in
     let tests = there .before .before in
     let a = tests .before .before .args in
-    t10-no-route (a .plan) (a .marks .now) (a .x) (a .set) (omega (arith, tests .before .if1 .left))
+    t10-no-route (planAt (a .plan .now)) (a .marks .now) (a .x) (a .set) (omega (arith, tests .before .if1 .left))
     (omega (arith, tests .if2 .left)) (is .result) (is .ensures) (not-false (is .result) (there .if3 .left)) (given .result)
     (given .ensures) (not-false (given .result) (all .if4 .left)) (found .result .place)
     (ap (λ (f : Found). f .place) (found .ensures)) (ranked .result) (ranked .ensures) (c .if5 .taken)
@@ -73,7 +74,7 @@ flag-requires c κs = search needs
 -- the reply once it is told whether the mark stands
 by-told : (c : tie.After-flag) (said : Bool) → c .flag .result ≡ said
     → let a = c .before .before .before .before .before .before .before .before .before .before .args in
-    cond said 0 5 ≡ replyT10 (a .plan) (a .marks .now) (a .x) (a .set)
+    cond said 0 5 ≡ replyT10 (planAt (a .plan .now)) (a .marks .now) (a .x) (a .set)
 by-told c said e =
     let near = c .before in
     let ranked = near .before .rank-by in
@@ -84,7 +85,7 @@ by-told c said e =
     let is = there .before .is-destination in
     let tests = there .before .before in
     let a = tests .before .before .args in
-    t10-by-mark (a .plan) (a .marks .now) (a .x) (a .set) (omega (arith, tests .before .if1 .left))
+    t10-by-mark (planAt (a .plan .now)) (a .marks .now) (a .x) (a .set) (omega (arith, tests .before .if1 .left))
     (omega (arith, tests .if2 .left)) (is .result) (is .ensures) (not-false (is .result) (there .if3 .left)) (given .result)
     (given .ensures) (not-false (given .result) (all .if4 .left)) (found .result .place)
     (ap (λ (f : Found). f .place) (found .ensures)) (ranked .result) (ranked .ensures) (omega (arith, near .if5 .left)) (c .flag .result) (c .flag .ensures) said e

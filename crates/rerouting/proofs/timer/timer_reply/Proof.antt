@@ -5,6 +5,7 @@ use borrow.Author.Tests.{not-true, not-false}
 use mathlib.Core.Bool.{Bool, true, false, cond}
 use mathlib.Core.Path.{_≡_, ap}
 use native.Mathlib.Omega.{arith}
+use Rattle.planwords.specs.Words.{planAt}
 use Rattle.plan.specs.declared.find.Found.{Found}
 use Rattle.rerouting.specs.Timer.{replyOf}
 use Rattle.rerouting.proofs.Replying.{no-code, no-destination, by-flag}
@@ -14,7 +15,7 @@ use Rattle.rerouting.proofs.timer.timer_reply.Tie as tie
 returns : tie.Need-returns
 returns c =
     let a = c .before .args in
-    no-code (a .plan) (a .marks .now) (a .x) (a .timer) (c .if1 .taken)
+    no-code (planAt (a .plan .now)) (a .marks .now) (a .x) (a .timer) (c .if1 .taken)
 
 is-destination-requires : tie.Need-is-destination-requires
 is-destination-requires c κs = search needs
@@ -24,7 +25,7 @@ returns-2 c =
     let is = c .before .is-destination in
     let tests = c .before .before in
     let a = tests .before .args in
-    no-destination (a .plan) (a .marks .now) (a .x) (a .timer) (omega (arith, tests .if1 .left)) (is .result) (is .ensures)
+    no-destination (planAt (a .plan .now)) (a .marks .now) (a .x) (a .timer) (omega (arith, tests .if1 .left)) (is .result) (is .ensures)
     (not-true (is .result) (c .if2 .taken))
 
 find-requires : tie.Need-find-requires
@@ -36,13 +37,13 @@ flag-requires c κs = search needs
 -- the reply once it is told whether the timer runs
 by-told : (c : tie.After-flag) (said : Bool) → c .flag .result ≡ said
     → let a = c .before .before .before .before .before .args in
-    cond said 0 5 ≡ replyOf (a .plan) (a .marks .now) (a .x) (a .timer)
+    cond said 0 5 ≡ replyOf (planAt (a .plan .now)) (a .marks .now) (a .x) (a .timer)
 by-told c said e =
     let there = c .before .before in
     let is = there .before .is-destination in
     let tests = there .before .before in
     let a = tests .before .args in
-    by-flag (a .plan) (a .marks .now) (a .x) (a .timer) (omega (arith, tests .if1 .left)) (is .result) (is .ensures)
+    by-flag (planAt (a .plan .now)) (a .marks .now) (a .x) (a .timer) (omega (arith, tests .if1 .left)) (is .result) (is .ensures)
     (not-false (is .result) (there .if2 .left)) (c .before .find .result .place)
     (ap (λ (f : Found). f .place) (c .before .find .ensures)) (c .flag .result) (c .flag .ensures) said e
 

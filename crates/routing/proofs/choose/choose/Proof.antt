@@ -1,15 +1,17 @@
 -- `routing::choose::choose` meets its contract: past the last destination there is no link, and else its routes and the sets say it.
 -- Assumes nothing.
 use borrow.Author.Needs.{needs}
-use mathlib.Core.Path.{_≡_, _∙_}
+use mathlib.Core.Path.{_≡_, ap, _∙_}
 use mathlib.Core.Bool.{Bool}
 use Prim.Native.Nat.{ℕ}
 use native.Mathlib.Omega.{arith}
-use lib.ListN.{length}
-use Rattle.plan.specs.Data.{routesOf}
+use mathlib.Core.List.{List}
+use Rattle.plan.specs.declared.data.Route.{Route}
+use Rattle.planwords.specs.Words.{planAt}
+use Rattle.planwords.proofs.Said.{all-destinations, routes-within}
+use Rattle.routing.specs.Which.{linkFrom}
 use Rattle.routing.specs.State as State
-use Rattle.plan.proofs.Tables.{unmapped}
-use Rattle.routing.proofs.Ranks.{no-destination, sets-alone}
+use Rattle.routing.proofs.Ranks.{no-destination}
 use Rattle.routing.proofs.choose.choose.Statement.{statement}
 use Rattle.routing.proofs.choose.choose.Tie as tie
 
@@ -24,23 +26,21 @@ returns : tie.Need-returns
 returns c =
     let s = c .before in
     let a = s .args in
-    let last : length (a .plan .destinations) ≡ 64 = search (needs, unmapped) in
-    no-destination (serving s) (marks s) (a .plan) (a .destination) (a .sls) (omega arith)
+    let last = all-destinations (a .plan .now) in
+    no-destination (serving s) (marks s) (planAt (a .plan .now)) (a .destination) (a .sls) (omega arith)
 
-mul-there : tie.Need-mul-there
-mul-there c = search needs
-
-array-copy-out-there : tie.Need-array-copy-out-there
-array-copy-out-there c = search needs
+destination-routes-requires : tie.Need-destination-routes-requires
+destination-routes-requires c κs = search needs
 
 choose-by-requires : tie.Need-choose-by-requires
 choose-by-requires c κs = search needs
 
 returns-2 : tie.Need-returns-2
 returns-2 c =
-    let s = c .before .before .before .before .before .before in
+    let s = c .before .before .before in
     let a = s .args in
-    c .choose-by .ensures ∙ sets-alone (serving s) (marks s) (a .plan) (a .sls) 0 (routesOf (a .plan) (a .destination))
+    c .choose-by .ensures
+    ∙ ap (λ (routes : List Route). linkFrom (serving s) (marks s) (planAt (a .plan .now)) (a .sls) 0 routes) (c .before .destination-routes .ensures ∙ routes-within (planAt (a .plan .now)) (a .destination) (c .before .before .if1 .left))
 
 pub choose-spec : {M : Type 1} → statement M
-choose-spec = tie.close (tie.spec returns mul-there array-copy-out-there choose-by-requires returns-2)
+choose-spec = tie.close (tie.spec returns destination-routes-requires choose-by-requires returns-2)

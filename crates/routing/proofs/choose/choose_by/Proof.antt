@@ -11,23 +11,26 @@ use lib.ListN.{length, getD}
 use Rattle.plan.specs.declared.data.Plan.{Plan}
 use Rattle.plan.specs.declared.data.Route.{Route}
 use Rattle.routing.specs.State as State
-use Rattle.plan.specs.Data.{noRoute}
-use Rattle.routing.specs.Which.{Proper, ofSets, inTurn, linkFor, linkFrom}
+use Rattle.plan.specs.Data.{noRoute, linksOf}
+use Rattle.planwords.specs.Words.{planAt}
+use Rattle.planwords.proofs.Said.{eight-sets}
+use Rattle.routing.specs.Which.{Proper, setFor, inTurn, linkFor, linkFrom}
 use Rattle.plan.proofs.Tables.{unmapped}
+use Rattle.routing.proofs.InTurn.{set-links}
 use Rattle.routing.proofs.Ranks.{onward, past-ranks, rank-passed, rank-taken}
 use Rattle.routing.proofs.Serving.{serves-proper}
 use Rattle.routing.proofs.choose.choose_by.Statement.{statement}
 use Rattle.routing.proofs.choose.choose_by.Tie as tie
 
 abbrev Inv-ranks : tie.InvT-ranks
-Inv-ranks sets links marks need destination sls routes rank₀ rank =
-    (rank ≤ 4) × (onward (State.serves links need) (State.isMarked marks destination) (ofSets sets) sls routes rank
-    ≡ linkFrom (State.serves links need) (State.isMarked marks destination) (ofSets sets) sls 0 routes)
+Inv-ranks plan links marks need destination sls routes rank₀ rank =
+    (rank ≤ 4) × (onward (State.serves links need) (State.isMarked marks destination) (planAt plan) sls routes rank
+    ≡ linkFrom (State.serves links need) (State.isMarked marks destination) (planAt plan) sls 0 routes)
 
 abbrev μ-ranks : tie.MeasureT-ranks
-μ-ranks sets links marks need destination sls routes rank₀ rank = 4 - rank
+μ-ranks plan links marks need destination sls routes rank₀ rank = 4 - rank
 
--- what the arguments say: which links serve, which routes are marked, and the sets
+-- what the arguments say: which links serve, which routes are marked, and the plan
 abbrev serving : tie.Start Inv-ranks μ-ranks → ℕ → Bool
 serving s = State.serves (s .args .links .now) (s .args .need)
 
@@ -35,7 +38,7 @@ abbrev marks : tie.Start Inv-ranks μ-ranks → ℕ → Bool
 marks s = State.isMarked (s .args .marks .now) (s .args .destination)
 
 abbrev plan : tie.Start Inv-ranks μ-ranks → Plan
-plan s = ofSets (s .args .sets)
+plan s = planAt (s .args .plan .now)
 
 four : (s : tie.Start Inv-ranks μ-ranks) → length (s .args .t2) ≡ 4
 four c = search (needs, unmapped)
@@ -52,7 +55,9 @@ found c =
     let sls = s .args .sls in
     let route : Route = getD (s .args .t2) (at .ranks .rank) noRoute in
     c .link-for .ensures
-    ∙ ap (λ (links : List ℕ). linkFor (serving s) links sls) (c .before .set-for .ensures)
+    ∙ ap (λ (set : ℕ). linkFor (serving s) (linksOf (plan s) set) sls) (c .before .set-for .ensures)
+    ∙ ap (λ (links : List ℕ). linkFor (serving s) links sls)
+    (set-links (plan s) route (c .before .before .marked .result) (eight-sets (s .args .plan .now)))
     ∙ ap (λ (mark : Bool). linkFor (serving s) (inTurn (plan s) route mark) sls) (c .before .before .marked .ensures)
 
 ranks-holds : tie.Need-ranks-holds Inv-ranks μ-ranks

@@ -9,6 +9,11 @@ use Prim.Native.Nat.{ℕ, _%_, _≤_, _<_}
 use native.Mathlib.Nat.{mod-lt}
 use native.Mathlib.Omega.{arith}
 use lib.ListN.{length, take, getD, length-take, List·getD-eq-default}
+use Rattle.plan.specs.declared.data.LinkSet.{LinkSet}
+use Rattle.plan.specs.Data.{setAt, linksOf}
+use Rattle.plan.proofs.Tables as Tables
+use Rattle.planwords.specs.Words.{planAt}
+use Rattle.planwords.proofs.Said.{eight-sets, eight-places}
 use Rattle.routing.specs.State as State
 use Rattle.routing.specs.Which.{none, linkFor}
 use Rattle.round.specs.Table.{patternOf, placeFor}
@@ -17,41 +22,51 @@ use Rattle.round.proofs.Lists.{in-front, taken-all}
 use Rattle.routing.proofs.choose.link_for.Statement.{statement}
 use Rattle.routing.proofs.choose.link_for.Tie as tie
 
--- what the arguments say: which links serve, and which there are
+-- what the arguments say: which links serve, the set, and which links it has
 abbrev serving : tie.Start → ℕ → Bool
 serving s = State.serves (s .args .links .now) (s .args .need)
 
+abbrev own : tie.Start → LinkSet
+own s = setAt (planAt (s .args .plan .now)) (s .args .set)
+
 abbrev those : tie.Start → List ℕ
-those s = take (s .args .those .count) (s .args .those .links)
+those s = linksOf (planAt (s .args .plan .now)) (s .args .set)
 
--- a set has at most eight links
-eight : (s : tie.Start) → length (s .args .those .links) ≡ 8
-eight s = search needs
-
-few : (s : tie.Start) → length (those s) ≤ 8
-few s = omega (arith, eight s, length-take (s .args .those .count) (s .args .those .links))
+returns : tie.Need-returns
+returns c =
+    let s = c .before in
+    let sets = eight-sets (s .args .plan .now) in
+    let past = Tables.no-links (planAt (s .args .plan .now)) (s .args .set) (omega arith) in
+    no-links (serving s) (those s) (s .args .sls) (ap length past)
 
 places-of-requires : tie.Need-places-of-requires
 places-of-requires c κs = search needs
 
-returns : tie.Need-returns
-returns c =
-    let s = c .before .before in
+returns-2 : tie.Need-returns-2
+returns-2 c =
+    let s = c .before .before .before in
     no-links (serving s) (those s) (s .args .sls) (omega (arith, c .before .places-of .ensures))
 
 rem-start : tie.Need-rem-start
 rem-start c = search needs
 
 -- where there are links, the starting place is one of theirs
-module _ (c : tie.Else1) where
+module _ (c : tie.Else2) where
   abbrev set : tie.Start
-  set = c .before .before
+  set = c .before .before .before
 
   abbrev m : ℕ
   m = c .before .places-of .result
 
   abbrev start : ℕ
   start = set .args .sls % m
+
+  -- a set has at most eight links
+  eight : length (own set .links) ≡ 8
+  eight = eight-places (set .args .plan .now) (set .args .set) (c .before .before .if1 .left)
+
+  few : length (those set) ≤ 8
+  few = omega (arith, eight, length-take (own set .count) (own set .links))
 
   some : 0 < length (those set)
   some = omega (arith, c .before .places-of .ensures)
@@ -60,29 +75,26 @@ module _ (c : tie.Else1) where
   inside = omega (arith, c .before .places-of .ensures, mod-lt (set .args .sls) {m = m} (omega arith))
 
   -- a link at a place of the set
-  there : (place : ℕ) → place < length (those set) → getD (set .args .those .links) place 0 ≡ getD (those set) place none
+  there : (place : ℕ) → place < length (those set) → getD (own set .links) place 0 ≡ getD (those set) place none
   there place h =
-      in-front (set .args .those .count) (set .args .those .links) place 0 none
-      (omega (arith, length-take (set .args .those .count) (set .args .those .links)))
-      (omega (arith, few set, eight set))
+      in-front (own set .count) (own set .links) place 0 none
+      (omega (arith, length-take (own set .count) (own set .links)))
+      (omega (arith, few, eight))
 
-cast-normal : tie.Need-cast-normal
-cast-normal c = record { fits = omega (arith, inside (c .before), few (set (c .before))) }
-
-array-read-normal : tie.Need-array-read-normal
-array-read-normal c = omega (arith, inside (c .before), few (set (c .before)))
+set-link-requires : tie.Need-set-link-requires
+set-link-requires c κs = search needs
 
 serves-requires : tie.Need-serves-requires
 serves-requires c κs = search needs
 
-returns-2 : tie.Need-returns-2
-returns-2 c =
+returns-3 : tie.Need-returns-3
+returns-3 c =
     let at = c .before .before .before in
     let s = set at in
     let sls = s .args .sls in
-    let normal = there at (start at) (inside at) in
+    let normal = c .before .before .set-link .ensures ∙ there at (start at) (inside at) in
     let place = ap (λ (m : ℕ). getD (those s) (sls % m) none) (at .before .places-of .ensures) in
-    let test = ap (serving s) (sym (normal ∙ place)) ∙ sym (c .before .serves .ensures) ∙ c .if2 .taken in
+    let test = ap (serving s) (sym (normal ∙ place)) ∙ sym (c .before .serves .ensures) ∙ c .if3 .taken in
     normal ∙ place ∙ normal-taken (serving s) (those s) sls (some at) test
 
 pattern-of-requires : tie.Need-pattern-of-requires
@@ -100,48 +112,44 @@ by-place c =
     let s = set at in
     let sls = s .args .sls in
     let m-all = at .before .places-of .ensures in
-    let links = s .args .those .links in
+    let links = own s .links in
     let all : take (m at) links ≡ those s =
-    ap (λ (m : ℕ). take m links) m-all ∙ taken-all (s .args .those .count) links
+    ap (λ (m : ℕ). take m links) m-all ∙ taken-all (own s .count) links
     in
     let pattern = c .before .pattern-of .ensures ∙ ap (patternOf (serving s)) all in
     let place = c .place-for .ensures ∙ ap₂ placeFor pattern (ap (λ (m : ℕ). sls % m) m-all) in
-    by-table (serving s) (those s) refl (few s) sls (some at)
+    by-table (serving s) (those s) refl (few at) sls (some at)
     ∙ ap (λ (place : ℕ). getD (those s) place none) (sym place)
-
-returns-3 : tie.Need-returns-3
-returns-3 c =
-    let at = c .before .before .before .before .before .before in
-    let past-all : length (those (set at)) ≤ c .before .place-for .result = omega (arith, at .before .places-of .ensures) in
-    sym (List·getD-eq-default (those (set at)) none {n = c .before .place-for .result} past-all) ∙ sym (by-place (c .before))
-
-cast-result : tie.Need-cast-result
-cast-result c = search needs
-
-array-read-result : tie.Need-array-read-result
-array-read-result c =
-    let at = c .before .before .before .before .before .before in
-    omega (arith, at .before .places-of .ensures, few (set at))
 
 returns-4 : tie.Need-returns-4
 returns-4 c =
     let at = c .before .before .before .before .before .before in
-    there at (c .before .place-for .result) (omega (arith, at .before .places-of .ensures)) ∙ sym (by-place (c .before))
+    let past-all : length (those (set at)) ≤ c .before .place-for .result = omega (arith, at .before .places-of .ensures) in
+    sym (List·getD-eq-default (those (set at)) none {n = c .before .place-for .result} past-all) ∙ sym (by-place (c .before))
+
+set-link-requires-2 : tie.Need-set-link-requires-2
+set-link-requires-2 c κs = search needs
+
+returns-5 : tie.Need-returns-5
+returns-5 c =
+    let test = c .before in
+    let at = test .before .before .before .before .before .before in
+    c .set-link2 .ensures
+    ∙ there at (test .before .place-for .result) (omega (arith, at .before .places-of .ensures)) ∙ sym (by-place (test .before))
 
 pub link-for-spec : {M : Type 1} → statement M
 link-for-spec =
     tie.close
     (tie.spec
-    places-of-requires
     returns
-    rem-start
-    cast-normal
-    array-read-normal
-    serves-requires
+    places-of-requires
     returns-2
+    rem-start
+    set-link-requires
+    serves-requires
+    returns-3
     pattern-of-requires
     place-for-requires
-    returns-3
-    cast-result
-    array-read-result
-    returns-4)
+    returns-4
+    set-link-requires-2
+    returns-5)

@@ -4,9 +4,13 @@ use borrow.Author.Needs.{needs}
 use mathlib.Core.Path.{_≡_, refl, sym, ap, _∙_}
 use mathlib.Core.Bool.{Bool}
 use mathlib.Core.List.{List}
-use Prim.Native.Nat.{ℕ}
+use Prim.Native.Nat.{ℕ, _<_}
 use native.Mathlib.Omega.{arith}
 use lib.ListN.{length, take, getD, length-take}
+use Rattle.plan.specs.declared.data.LinkSet.{LinkSet}
+use Rattle.plan.specs.Data.{setAt}
+use Rattle.planwords.specs.Words.{planAt}
+use Rattle.planwords.proofs.Said.{eight-places, set-past}
 use Rattle.routing.specs.State as State
 use Rattle.routing.specs.Which.{none}
 use Rattle.round.proofs.ByTable.{no-bit}
@@ -18,44 +22,56 @@ use Rattle.routing.proofs.pattern.bit_at.Tie as tie
 abbrev serving : tie.Start → ℕ → Bool
 serving s = State.serves (s .args .links .now) (s .args .need)
 
-abbrev those : tie.Start → List ℕ
-those s = take (s .args .m) (s .args .t4)
+abbrev members : tie.Start → List ℕ
+members s = setAt (planAt (s .args .plan .now)) (s .args .set) .links
 
-eight : (s : tie.Start) → length (s .args .t4) ≡ 8
-eight s = search needs
+abbrev those : tie.Start → List ℕ
+those s = take (s .args .m) (members s)
+
+-- a set that there is has eight places
+eight : (s : tie.Start) → s .args .set < 8 → length (members s) ≡ 8
+eight s h = eight-places (s .args .plan .now) (s .args .set) h
 
 returns : tie.Need-returns
 returns c =
     let s = c .before in
-    no-bit (serving s) (those s) refl (s .args .place) (omega (arith, eight s, length-take (s .args .m) (s .args .t4)))
+    let past = set-past (s .args .plan .now) (s .args .set) (c .if1 .taken) in
+    no-bit (serving s) (those s) refl (s .args .place) (omega (arith, length-take (s .args .m) (members s), ap (λ (set : LinkSet). length (set .links)) past))
 
 returns-2 : tie.Need-returns-2
 returns-2 c =
     let s = c .before .before in
-    no-bit (serving s) (those s) refl (s .args .place) (omega (arith, length-take (s .args .m) (s .args .t4)))
+    no-bit (serving s) (those s) refl (s .args .place) (omega (arith, eight s (c .before .if1 .left), length-take (s .args .m) (members s)))
 
-array-read-serves : tie.Need-array-read-serves
-array-read-serves c = search needs
+returns-3 : tie.Need-returns-3
+returns-3 c =
+    let s = c .before .before .before in
+    no-bit (serving s) (those s) refl (s .args .place) (omega (arith, length-take (s .args .m) (members s)))
+
+set-link-requires : tie.Need-set-link-requires
+set-link-requires c κs = search needs
 
 serves-requires : tie.Need-serves-requires
 serves-requires c κs = search needs
 
 -- the link that is tested is the one at the place
 tested : (c : tie.After-serves)
-    → let s = c .before .before .before in
+    → let s = c .before .before .before .before .before in
     c .serves .result ≡ serving s (getD (those s) (s .args .place) none)
 tested c =
-    let s = c .before .before .before in
+    let s = c .before .before .before .before .before in
     let a = s .args in
     c .serves .ensures
-    ∙ ap (serving s) (in-front (a .m) (a .t4) (a .place) 0 none (omega arith) (omega (arith, eight s)))
-
-returns-3 : tie.Need-returns-3
-returns-3 c = simp (sym (tested (c .before)), c .if3 .taken)
+    ∙ ap (serving s)
+    (c .before .set-link .ensures
+    ∙ in-front (a .m) (members s) (a .place) 0 none (omega arith) (omega (arith, eight s (c .before .before .before .before .if1 .left))))
 
 returns-4 : tie.Need-returns-4
-returns-4 c = simp (sym (tested (c .before)), c .if3 .left)
+returns-4 c = simp (sym (tested (c .before)), c .if4 .taken)
+
+returns-5 : tie.Need-returns-5
+returns-5 c = simp (sym (tested (c .before)), c .if4 .left)
 
 pub bit-at-spec : {M : Type 1} → statement M
 bit-at-spec =
-    tie.close (tie.spec returns returns-2 array-read-serves serves-requires returns-3 returns-4)
+    tie.close (tie.spec returns returns-2 returns-3 set-link-requires serves-requires returns-4 returns-5)

@@ -7,6 +7,8 @@ use mathlib.Core.List.{List}
 use Prim.Native.Nat.{ℕ, _≤_}
 use native.Mathlib.Omega.{arith}
 use lib.ListN.{length, take, length-take}
+use Rattle.plan.specs.Data.{setAt}
+use Rattle.planwords.specs.Words.{planAt}
 use Rattle.routing.specs.State as State
 use Rattle.round.specs.Table.{bitAt}
 use Rattle.round.proofs.ByTable.{lows, no-bit}
@@ -18,7 +20,7 @@ abbrev serving : tie.Start → ℕ → Bool
 serving s = State.serves (s .args .links .now) (s .args .need)
 
 abbrev those : tie.Start → List ℕ
-those s = take (s .args .m) (s .args .round)
+those s = take (s .args .m) (setAt (planAt (s .args .plan .now)) (s .args .set) .links)
 
 bit-at-requires : tie.Need-bit-at-requires
 bit-at-requires c κs = search needs
@@ -65,7 +67,7 @@ add-first-3 c =
 returns : tie.Need-returns
 returns c =
     let s = c .before .before .before .before .before in
-    let few : length (those s) ≤ 4 = omega (arith, length-take (s .args .m) (s .args .round)) in
+    let few : length (those s) ≤ 4 = omega (arith, length-take (s .args .m) (setAt (planAt (s .args .plan .now)) (s .args .set) .links)) in
     let no : (place : ℕ) → 4 ≤ place → 0 ≡ bitAt (serving s) (those s) place =
     λ place h. no-bit (serving s) (those s) refl place (omega arith)
     in

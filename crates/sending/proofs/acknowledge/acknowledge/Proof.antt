@@ -1,5 +1,5 @@
--- `acknowledge::acknowledge` meets its contract: a reply over 0 changes nothing, else the messages up to b are retired and the record
--- is stored with the numbers after it. Assumes nothing.
+-- `acknowledge::acknowledge` meets its contract: a reply over 0 changes nothing, else the messages up to b are retired and the two
+-- numbers after it are stored. Assumes nothing.
 use Prim.Native.Nat.{_-_}
 use mathlib.Core.Path.{sym, _∙_}
 use borrow.Author.Needs.{needs}
@@ -27,23 +27,30 @@ distance-requires c κs = search needs
 retire-requires : tie.Need-retire-requires
 retire-requires c κs = search needs
 
-acknowledged-to-requires : tie.Need-acknowledged-to-requires
-acknowledged-to-requires c κs = search needs
+left-sent-requires : tie.Need-left-sent-requires
+left-sent-requires c κs = search needs
 
-store-link-requires : tie.Need-store-link-requires
-store-link-requires c κs = search needs
+store-sent-requires : tie.Need-store-sent-requires
+store-sent-requires c κs = search needs
+
+store-acknowledged-requires : tie.Need-store-acknowledged-requires
+store-acknowledged-requires c κs = search needs
 
 returns-2 : tie.Need-returns-2
 unfolding linksAfter queuesAfter
 returns-2 c =
-    let reply = c .before .before .before .before .before .before .before .before .before .before .acknowledge-reply in
-    let none = done (reply .result) _ (reply .ensures) (c .before .before .before .before .before .before .before .before .before .if1 .left) in
-    let known = c .before .before .before .before .before .before .before .load-link in
-    let retire = c .before .before .before .retire in
-    let many = c .before .before .before .before .distance in (
+    let at-store = c .before .before in
+    let at-retire = at-store .before .before .before in
+    let at-load = at-retire .before .before .before .before in
+    let reply = at-load .before .before .before .acknowledge-reply in
+    let none = done (reply .result) _ (reply .ensures) (at-load .before .before .if1 .left) in
+    let known = at-load .load-link in
+    let retire = at-retire .retire in
+    let many = at-retire .before .distance in (
       sym none,
       (
-        c .store-link .ensures ∙ simp (none, c .before .acknowledged-to .ensures, known .ensures),
+        c .store-acknowledged .ensures
+            ∙ simp (none, at-store .store-sent .ensures, at-store .before .left-sent .ensures, known .ensures),
         (
           retire .ensures .0 ∙ simp (none, many .ensures, known .ensures),
           retire .ensures .1 ∙ simp (none, many .ensures, known .ensures),
@@ -60,6 +67,7 @@ acknowledge-spec =
     load-link-requires
     distance-requires
     retire-requires
-    acknowledged-to-requires
-    store-link-requires
+    left-sent-requires
+    store-sent-requires
+    store-acknowledged-requires
     returns-2)

@@ -7,6 +7,7 @@ use mathlib.Core.Path.{_≡_, sym, ap, _∙_}
 use lib.Dec.{eqb}
 use borrow.Author.Needs.{needs}
 use borrow.Author.Tests.{le-leb, lt-leb, eq-eqb, ne-eqb, not-true, not-false}
+use Rattle.planwords.specs.Words.{planAt}
 use Rattle.counting.specs.Counting.{inRange}
 use Rattle.replies.specs.Reply.{row, first}
 use Rattle.rows.specs.declared.link.LinkRecord.{LinkRecord}
@@ -16,7 +17,7 @@ use Rattle.sending.proofs.acknowledge.acknowledge_reply.Statement.{stat
 use Rattle.sending.proofs.acknowledge.acknowledge_reply.Tie as tie
 
 -- the rows left once the link is known
-left : (c : tie.After-load-link) → replyOf (c .before .before .before .before .before .args .plan) (c .before .before .before .before .before .args .links .now) (c .before .before .before .before .before .args .link) (c .before .before .before .before .before .args .b) ≡ first (row 5 (not (eqb (c .load-link .result .state) 2)) ∷ row 6 (not (inRange 128 (c .load-link .result .acknowledged) (c .load-link .result .sent) (c .before .before .before .before .before .args .b))) ∷ [])
+left : (c : tie.After-load-link) → replyOf (planAt (c .before .before .before .before .before .args .plan .now)) (c .before .before .before .before .before .args .links .now) (c .before .before .before .before .before .args .link) (c .before .before .before .before .before .args .b) ≡ first (row 5 (not (eqb (c .load-link .result .state) 2)) ∷ row 6 (not (inRange 128 (c .load-link .result .acknowledged) (c .load-link .result .sent) (c .before .before .before .before .before .args .b))) ∷ [])
 unfolding replyOf
 left c =
     let is = c .before .before .is-link in

@@ -1,5 +1,5 @@
--- `send::send` meets its contract: a reply over 0 changes nothing, else the first unsent message is written out and the record is
--- stored with one message more sent. Assumes nothing.
+-- `send::send` meets its contract: a reply over 0 changes nothing, else the first unsent message is written out and one message more
+-- is stored as sent. Assumes nothing.
 use Prim.Native.Nat.{_-_}
 use mathlib.Core.Path.{_∙_}
 use borrow.Author.Needs.{needs}
@@ -33,11 +33,11 @@ at-requires c κs = search needs
 write-slot-requires : tie.Need-write-slot-requires
 write-slot-requires c κs = search needs
 
-sent-one-requires : tie.Need-sent-one-requires
-sent-one-requires c κs = search needs
+next-requires : tie.Need-next-requires
+next-requires c κs = search needs
 
-store-link-requires : tie.Need-store-link-requires
-store-link-requires c κs = search needs
+store-sent-requires : tie.Need-store-sent-requires
+store-sent-requires c κs = search needs
 
 next-number-requires : tie.Need-next-number-requires
 next-number-requires c κs = search needs
@@ -55,7 +55,7 @@ returns-2 c =
     let write = c .before .before .before .before .before .before .write-slot .ensures in (
       simp (none, c .next-number .ensures, write .0, slot, known),
       (
-        c .before .store-link .ensures ∙ simp (none, c .before .before .sent-one .ensures, known),
+        c .before .store-sent .ensures ∙ simp (none, c .before .before .next .ensures, known),
         write .1 ∙ simp (none, slot, known),
       ),
     )
@@ -71,8 +71,8 @@ send-spec =
     cast-at
     at-requires
     write-slot-requires
-    sent-one-requires
-    store-link-requires
+    next-requires
+    store-sent-requires
     next-number-requires
     same-length
     returns-2)

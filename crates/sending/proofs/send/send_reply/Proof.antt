@@ -7,6 +7,7 @@ use mathlib.Core.Path.{_≡_, sym, ap, _∙_}
 use lib.Dec.{eqb, leb}
 use borrow.Author.Needs.{needs}
 use borrow.Author.Tests.{lt-ltb, le-ltb, le-leb, lt-leb, eq-eqb, ne-eqb}
+use Rattle.planwords.specs.Words.{planAt}
 use Rattle.replies.specs.Reply.{row, first}
 use Rattle.rows.specs.declared.link.LinkRecord.{LinkRecord}
 use Rattle.rings.specs.Ring.{countOf}
@@ -16,7 +17,7 @@ use Rattle.sending.proofs.send.send_reply.Statement.{statement}
 use Rattle.sending.proofs.send.send_reply.Tie as tie
 
 -- the row left once the link is known
-left : (c : tie.After-load-link) → replyOf (c .before .before .before .before .before .args .plan) (c .before .before .before .before .before .args .links .now) (c .before .before .before .before .before .args .spans .now) (c .before .before .before .before .before .args .link) (c .before .before .before .before .before .args .room) ≡ first (row 5 (not (eqb (c .load-link .result .state) 2) || (leb (countOf (c .before .before .before .before .before .args .spans .now) (c .before .before .before .before .before .args .link)) (c .load-link .result .sent) || leb 127 (c .load-link .result .sent))) ∷ [])
+left : (c : tie.After-load-link) → replyOf (planAt (c .before .before .before .before .before .args .plan .now)) (c .before .before .before .before .before .args .links .now) (c .before .before .before .before .before .args .spans .now) (c .before .before .before .before .before .args .link) (c .before .before .before .before .before .args .room) ≡ first (row 5 (not (eqb (c .load-link .result .state) 2) || (leb (countOf (c .before .before .before .before .before .args .spans .now) (c .before .before .before .before .before .args .link)) (c .load-link .result .sent) || leb 127 (c .load-link .result .sent))) ∷ [])
 unfolding replyOf
 left c =
     let is = c .before .before .is-link in
@@ -61,7 +62,7 @@ returns-5 c =
     sym (left (c .before .before .before .before .before) ∙ simp (eq-eqb _ _ (c .before .before .before .if4 .left), none-unsent))
 
 -- an open link with an unsent message: the reply goes by how many are unacknowledged
-unsent : (c : tie.Else5) → replyOf (c .before .before .before .before .before .before .before .before .before .before .args .plan) (c .before .before .before .before .before .before .before .before .before .before .args .links .now) (c .before .before .before .before .before .before .before .before .before .before .args .spans .now) (c .before .before .before .before .before .before .before .before .before .before .args .link) (c .before .before .before .before .before .before .before .before .before .before .args .room) ≡ cond (leb 127 (c .before .before .before .before .before .load-link .result .sent)) 5 0
+unsent : (c : tie.Else5) → replyOf (planAt (c .before .before .before .before .before .before .before .before .before .before .args .plan .now)) (c .before .before .before .before .before .before .before .before .before .before .args .links .now) (c .before .before .before .before .before .before .before .before .before .before .args .spans .now) (c .before .before .before .before .before .before .before .before .before .before .args .link) (c .before .before .before .before .before .before .before .before .before .before .args .room) ≡ cond (leb 127 (c .before .before .before .before .before .load-link .result .sent)) 5 0
 unfolding first
 unsent c =
     let held = c .before .before .count in

@@ -3,6 +3,7 @@
 use Prim.Native.Nat.{_-_}
 use mathlib.Core.Path.{ap, sym, _∙_}
 use borrow.Author.Needs.{needs}
+use Rattle.planwords.specs.Words.{planAt}
 use Rattle.sending.specs.Send.{heldCountBy, heldOutBy}
 use Rattle.sending.proofs.send.write_held.Statement.{statement}
 use Rattle.sending.proofs.send.write_held.Tie as tie
@@ -30,15 +31,21 @@ unfolding heldCountBy heldOutBy
 returns c =
     let a = c .before .before .before .before .before .before .before .args in
     let none = sym (c .before .before .listed .ensures) ∙ c .enum-told .given .1 in (
-      sym (ap (heldCountBy (a .plan) (a .known) (a .out .now)) none),
-      sym (ap (heldOutBy (a .plan) (a .known) (a .out .now)) none),
+      sym (ap (heldCountBy (planAt (a .plan .now)) (a .known) (a .out .now)) none),
+      sym (ap (heldOutBy (planAt (a .plan .now)) (a .known) (a .out .now)) none),
     )
 
-cast-t12 : tie.Need-cast-t12
-cast-t12 c = search needs
+code-requires : tie.Need-code-requires
+code-requires c κs = search needs
 
-cast-t13 : tie.Need-cast-t13
-cast-t13 c = search needs
+ni-requires : tie.Need-ni-requires
+ni-requires c κs = search needs
+
+cast-t14 : tie.Need-cast-t14
+cast-t14 c = search needs
+
+cast-t15 : tie.Need-cast-t15
+cast-t15 c = search needs
 
 write-message-requires : tie.Need-write-message-requires
 write-message-requires c κs = search needs
@@ -49,11 +56,14 @@ same-length c = search needs
 returns-2 : tie.Need-returns-2
 unfolding heldCountBy heldOutBy
 returns-2 c =
-    let a = c .before .before .before .before .before .before .before .before .before .before .before .before .before .before .args in
-    let one = sym (c .before .before .before .before .before .before .before .before .before .listed .ensures) ∙ c .before .before .before .before .before .before .before .message .given .1 in
-    let write = c .before .before .write-message in (
-      write .ensures .0 ∙ sym (ap (heldCountBy (a .plan) (a .known) (a .out .now)) one),
-      write .ensures .1 ∙ sym (ap (heldOutBy (a .plan) (a .known) (a .out .now)) one),
+    let write = c .before .before .write-message in
+    let ni = c .before .before .before .before .before .before .ni in
+    let code = c .before .before .before .before .before .before .before .code in
+    let start = c .before .before .before .before .before .before .before .before in
+    let one = sym (start .before .before .before .listed .ensures) ∙ start .before .message .given .1 in
+    let a = start .before .before .before .before .before .before .before .before .args in (
+      write .ensures .0 ∙ sym (ap (heldCountBy (planAt (a .plan .now)) (a .known) (a .out .now)) one),
+      rw (ni .ensures, code .ensures) at (write .ensures .1) ∙ sym (ap (heldOutBy (planAt (a .plan .now)) (a .known) (a .out .now)) one),
     )
 
 pub write-held-spec : {M : Type 1} → statement M
@@ -67,8 +77,10 @@ write-held-spec =
     enum-known-message
     enum-told
     returns
-    cast-t12
-    cast-t13
+    code-requires
+    ni-requires
+    cast-t14
+    cast-t15
     write-message-requires
     same-length
     returns-2)

@@ -5,6 +5,7 @@ use mathlib.Core.Path.{_≡_, sym, ap, _∙_}
 use native.Mathlib.Omega.{arith}
 use lib.ListN.{length}
 use lib.Seq.{slice}
+use Rattle.planwords.specs.Words.{planAt}
 use Rattle.replies.specs.Areas.{areas}
 use Rattle.node.specs.Memory.{memory}
 use Rattle.shift.proofs.Room.{slice-long}
@@ -63,7 +64,7 @@ returns c =
     let sent-long : length (called .last .1 .1 .1 .1 .1 .1 .1 .1 .1 .1 .0) ≡ 4096 = omega (arith, asked, called) in
     let reports-long : length (called .last .1 .1 .1 .1 .1 .1 .1 .1 .1 .1 .1 .0) ≡ 1024 = omega (arith, asked, called) in
     let left =
-    call-leaves (a .plan) (a .view) (slice (a .at) (a .part .end) (a .text .now)) (a .part .next) before (a .message .now) (a .out .now) (a .place)
+    call-leaves (planAt (a .plan .now)) (a .view) (slice (a .at) (a .part .end) (a .text .now)) (a .part .next) before (a .message .now) (a .out .now) (a .place)
     (omega (arith, asked)) (omega (arith, asked)) (said .0 .0) (sym (said .1) ∙ read .ensures .0) (read .last .1 .1 .1 .0) (read .ensures .1) _ (part .ensures) after (called .result)
     (called .ensures) (put .last .0) (put .result) (put .ensures) (omega (arith, asked, read, ap length (part .ensures), slice-long (said .0 .0 .octets) (read .last .1 .1 .1 .0))) sent-long reports-long (wrapped .result) (wrapped .ensures)
     in
@@ -84,7 +85,7 @@ returns-2 c =
     let put = c .before .before .put-unreadable in
     let before = memory (areas (a .links .now) (a .marks .now) (a .spans .now) (a .rings .now) (a .rows .now) (a .arrivals .now) (a .reports .now)) (a .octets .now) (a .sent .now) in
     let left =
-    refusal-leaves (a .plan) (a .view) (slice (a .at) (a .part .end) (a .text .now)) (a .part .next) before (a .message .now) (a .out .now) (a .place)
+    refusal-leaves (planAt (a .plan .now)) (a .view) (slice (a .at) (a .part .end) (a .text .now)) (a .part .next) before (a .message .now) (a .out .now) (a .place)
     (omega (arith, asked)) (omega (arith, asked)) (sym (told .1) ∙ read .ensures .0) (read .last .1 .1 .1 .0) (read .ensures .1) (put .last .0) (put .result) (put .ensures)
     in
     (left .desk-is, (left .within, left .rest-is))

@@ -8,6 +8,7 @@ use native.Mathlib.Omega.{arith}
 use Prim.Native.Nat.{ℕ, _-_}
 use lib.ListN.{length}
 use lib.Seq.{slice}
+use Rattle.planwords.specs.Words.{planAt}
 use Rattle.replies.specs.Areas.{areas}
 use Rattle.node.specs.Memory.{memory}
 use Rattle.shift.proofs.Lines.{less-left}
@@ -27,7 +28,7 @@ record Standing (going : Type 0) (message₀ sent₀ reports₀ out₀ message s
 abbrev Inv-loop : tie.InvT-loop
 Inv-loop plan links₀ marks₀ spans₀ rings₀ rows₀ octets₀ arrivals₀ text view message₀ sent₀ reports₀ out₀ place₀ links marks spans rings rows octets arrivals message sent reports out place =
     Standing
-    (Going plan view text place₀ (memory (areas links₀ marks₀ spans₀ rings₀ rows₀ arrivals₀ reports₀) octets₀ sent₀) message₀ out₀
+    (Going (planAt plan) view text place₀ (memory (areas links₀ marks₀ spans₀ rings₀ rows₀ arrivals₀ reports₀) octets₀ sent₀) message₀ out₀
     (memory (areas links marks spans rings rows arrivals reports) octets sent) message out place)
     (length message₀) (length sent₀) (length reports₀) (length out₀) (length message) (length sent) (length reports) (length out)
 
@@ -43,17 +44,17 @@ returns c =
     let a = c .before .before .before .before .before .before .before .args in
     let m = memory (areas (a .links .now) (a .marks .now) (a .spans .now) (a .rings .now) (a .rows .now) (a .arrivals .now) (a .reports .now)) (a .octets .now) (a .sent .now) in
     let d = deskAt m (a .message .now) (a .out .now) (a .from) in
-    let whole = ran (a .plan) (a .view) (linesFrom (a .text .now) (a .from .at)) d in
+    let whole = ran (planAt (a .plan .now)) (a .view) (linesFrom (a .text .now) (a .from .at)) d in
     let off : sized d (a .out .now) ≡ false = sym (c .before .fit .ensures) ∙ not-true (c .before .fit .result) (c .if1 .taken) in
     let is : d ≡ cond (sized d (a .out .now)) whole d = sym (ap (λ (t : Bool). cond t whole d) off) in
-    ended (a .plan) (a .view) (a .text .now) (a .from) m (a .message .now) (a .out .now) m (a .message .now) (a .out .now) (a .from)
+    ended (planAt (a .plan .now)) (a .view) (a .text .now) (a .from) m (a .message .now) (a .out .now) m (a .message .now) (a .out .now) (a .from)
     (cond (sized d (a .out .now)) whole d) is (omega arith) refl refl
 
 loop-holds : tie.Need-loop-holds Inv-loop μ-loop
 loop-holds c =
     let a = c .before .before .before .before .before .before .before .args in
     record {
-      on = begins (a .plan) (a .view) (a .text .now) (a .from) (memory (areas (a .links .now) (a .marks .now) (a .spans .now) (a .rings .now) (a .rows .now) (a .arrivals .now) (a .reports .now)) (a .octets .now) (a .sent .now)) (a .message .now) (a .out .now);
+      on = begins (planAt (a .plan .now)) (a .view) (a .text .now) (a .from) (memory (areas (a .links .now) (a .marks .now) (a .spans .now) (a .rings .now) (a .rows .now) (a .arrivals .now) (a .reports .now)) (a .octets .now) (a .sent .now)) (a .message .now) (a .out .now);
       message-long = refl;
       sent-long = refl;
       reports-long = refl;
@@ -84,7 +85,7 @@ loop-less c =
     let ran-it = c .before .before .before .before .before .before .before .before .run-line in
     let on = sym (c .before .before .before .before .before .before .before .before .before .before .before .before .before .before .before .before .before .before .before .before .before .goes-on .ensures) ∙ not-false (c .before .before .before .before .before .before .before .before .before .before .before .before .before .before .before .before .before .before .before .before .before .goes-on .result) (c .before .before .before .before .before .before .before .before .before .before .before .before .before .before .before .before .before .before .before .before .if2 .left) in
     let less = less-left (a .text .now) (l .place .at) (found .result) (found .ensures) (line-of (found .result .closed) (l .place .readable) (l .place .pending) on) in
-    let next = next-at (a .plan) (a .view) (slice (l .place .at) (found .result .end) (a .text .now)) (found .result .next)
+    let next = next-at (planAt (a .plan .now)) (a .view) (slice (l .place .at) (found .result .end) (a .text .now)) (found .result .next)
     (deskAt (memory (areas (l .links) (l .marks) (l .spans) (l .rings) (l .rows) (l .arrivals) (l .reports)) (l .octets) (l .sent)) (l .message) (l .out) (l .place)) (memory (areas (ran-it .last .1 .0) (ran-it .last .1 .1 .0) (ran-it .last .1 .1 .1 .0) (ran-it .last .1 .1 .1 .1 .0) (ran-it .last .1 .1 .1 .1 .1 .0) (ran-it .last .1 .1 .1 .1 .1 .1 .1 .0) (ran-it .last .1 .1 .1 .1 .1 .1 .1 .1 .1 .1 .1 .1 .1 .1 .1 .0)) (ran-it .last .1 .1 .1 .1 .1 .1 .0) (ran-it .last .1 .1 .1 .1 .1 .1 .1 .1 .1 .1 .1 .1 .1 .1 .0)) (ran-it .last .1 .1 .1 .1 .1 .1 .1 .1 .1 .1 .1 .1 .1 .0) (ran-it .last .1 .1 .1 .1 .1 .1 .1 .1 .1 .1 .1 .1 .1 .1 .1 .1 .0) (ran-it .result) (ran-it .ensures .0)
     in
     omega (arith, less, next)
@@ -100,7 +101,7 @@ loop-again c =
     let out-long : length (ran-it .last .1 .1 .1 .1 .1 .1 .1 .1 .1 .1 .1 .1 .1 .1 .1 .1 .0) ≡ length (a .out .now) = omega (arith, ran-it, l .inv .out-long) in
     record {
       on =
-          goes-further (a .plan) (a .view) (a .text .now) (a .from) (memory (areas (a .links .now) (a .marks .now) (a .spans .now) (a .rings .now) (a .rows .now) (a .arrivals .now) (a .reports .now)) (a .octets .now) (a .sent .now)) (a .message .now) (a .out .now) (sizes .out-is)
+          goes-further (planAt (a .plan .now)) (a .view) (a .text .now) (a .from) (memory (areas (a .links .now) (a .marks .now) (a .spans .now) (a .rings .now) (a .rows .now) (a .arrivals .now) (a .reports .now)) (a .octets .now) (a .sent .now)) (a .message .now) (a .out .now) (sizes .out-is)
           (memory (areas (l .links) (l .marks) (l .spans) (l .rings) (l .rows) (l .arrivals) (l .reports)) (l .octets) (l .sent)) (l .message) (l .out) (l .place) (l .inv .out-long) (l .inv .on) (found .result) (found .ensures) on
           (memory (areas (ran-it .last .1 .0) (ran-it .last .1 .1 .0) (ran-it .last .1 .1 .1 .0) (ran-it .last .1 .1 .1 .1 .0) (ran-it .last .1 .1 .1 .1 .1 .0) (ran-it .last .1 .1 .1 .1 .1 .1 .1 .0) (ran-it .last .1 .1 .1 .1 .1 .1 .1 .1 .1 .1 .1 .1 .1 .1 .1 .0)) (ran-it .last .1 .1 .1 .1 .1 .1 .0) (ran-it .last .1 .1 .1 .1 .1 .1 .1 .1 .1 .1 .1 .1 .1 .1 .0)) (ran-it .last .1 .1 .1 .1 .1 .1 .1 .1 .1 .1 .1 .1 .1 .0) (ran-it .last .1 .1 .1 .1 .1 .1 .1 .1 .1 .1 .1 .1 .1 .1 .1 .1 .0) (ran-it .result) out-long (ran-it .ensures .0) (ran-it .ensures .1 .0) (ran-it .ensures .1 .1);
       message-long = omega (arith, ran-it, l .inv .message-long);
@@ -128,14 +129,14 @@ returns-2 c =
     let found = c .before .before .line in
     let m = memory (areas (a .links .now) (a .marks .now) (a .spans .now) (a .rings .now) (a .rows .now) (a .arrivals .now) (a .reports .now)) (a .octets .now) (a .sent .now) in
     let d = deskAt m (a .message .now) (a .out .now) (a .from) in
-    let whole = ran (a .plan) (a .view) (linesFrom (a .text .now) (a .from .at)) d in
+    let whole = ran (planAt (a .plan .now)) (a .view) (linesFrom (a .text .now) (a .from .at)) d in
     let fits : sized d (a .out .now) ≡ true = sym (c .before .before .before .before .before .fit .ensures) ∙ not-false (c .before .before .before .before .before .fit .result) (c .before .before .before .before .if1 .left) in
     let sizes = sizes-of (length (a .message .now)) (length (a .sent .now)) (length (a .reports .now)) (length (a .out .now)) fits in
     let off = sym (c .before .goes-on .ensures) ∙ not-true (c .before .goes-on .result) (c .if2 .taken) in
-    let is = stops (a .plan) (a .view) (a .text .now) (a .from) m (a .message .now) (a .out .now) (sizes .out-is)
+    let is = stops (planAt (a .plan .now)) (a .view) (a .text .now) (a .from) m (a .message .now) (a .out .now) (sizes .out-is)
     (memory (areas (l .links) (l .marks) (l .spans) (l .rings) (l .rows) (l .arrivals) (l .reports)) (l .octets) (l .sent)) (l .message) (l .out) (l .place) (l .inv .out-long) (l .inv .on) (found .result) (found .ensures) off
     in
-    ended (a .plan) (a .view) (a .text .now) (a .from) m (a .message .now) (a .out .now) (memory (areas (l .links) (l .marks) (l .spans) (l .rings) (l .rows) (l .arrivals) (l .reports)) (l .octets) (l .sent)) (l .message) (l .out) (l .place)
+    ended (planAt (a .plan .now)) (a .view) (a .text .now) (a .from) m (a .message .now) (a .out .now) (memory (areas (l .links) (l .marks) (l .spans) (l .rings) (l .rows) (l .arrivals) (l .reports)) (l .octets) (l .sent)) (l .message) (l .out) (l .place)
     (cond (sized d (a .out .now)) whole d) (is ∙ sym (ap (λ (t : Bool). cond t whole d) fits)) (l .inv .on .pending-is) (l .inv .on .rest-is) (l .inv .out-long)
 
 pub run-lines-spec : {M : Type 1} → statement M
