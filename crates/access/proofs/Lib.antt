@@ -1,5 +1,4 @@
-pub mod Accessible
+pub mod EachSls
 pub mod Filled
 pub mod Same
 pub mod Told
-pub mod Ways

@@ -8,7 +8,7 @@ use Rattle.plan.specs.Data.{destinationAt}
 use Rattle.plan.specs.Find.{given}
 use Rattle.routing.specs.Which.{none}
 use Rattle.reports.specs.Report.{Log, pause, resume, told}
-use Rattle.access.specs.Way.{currentLink}
+use Rattle.ways.specs.Way.{currentLink}
 
 -- "is inaccessible exactly if there is none": the rule yields a link, for one SLS as for each
 unfoldable pub isAccessible : Plan → List ℕ → List ℕ → ℕ → Bool

@@ -12,11 +12,10 @@ use Rattle.rings.specs.Ring.{countOf}
 use Rattle.replies.specs.Areas.{Areas}
 use Rattle.making.specs.Make.{Held, pathOf, hasPath, made, heldIn, withHeld, withMade}
 use Rattle.routing.specs.Which.{none}
-use Rattle.queueing.specs.Head.{both}
+use Rattle.heads.specs.Head.{both}
 use borrow.Author.Tests.{ltb-true}
-use Rattle.orders.specs.declared.step.Step.{Step}
-use Rattle.orders.specs.Step.{answer}
-use Rattle.orders.specs.Ask.{draft}
+use Rattle.steps.specs.declared.Step.{Step}
+use Rattle.steps.specs.Step.{answer, draft}
 use Rattle.orders.specs.Carry.{withAnswer}
 use Rattle.promises.proofs.Outcomes.{RegularIn, by-test}
 use Rattle.promises.proofs.KeepsMaking.{made-regular}

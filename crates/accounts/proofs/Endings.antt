@@ -11,7 +11,7 @@ use borrow.Author.Tests.{ltb-true, ltb-false, eqb-true}
 use Rattle.plan.specs.declared.data.Plan.{Plan}
 use Rattle.plan.specs.Find.{given}
 use Rattle.plan.proofs.Split.{both-false}
-use Rattle.rows.specs.Rows.{recordAt}
+use Rattle.linkrecords.specs.LinkRecords.{recordAt}
 use Rattle.rings.specs.Ring.{countOf}
 use Rattle.network.specs.declared.management.Message.{Message}
 use Rattle.network.specs.declared.management.Message.the-variants.{COO, COA, CBD, CBA, ECO, ECA, TFP, TFA, RST}
@@ -21,10 +21,12 @@ use Rattle.replies.specs.Areas.{Areas, Outcome, judged, refused}
 use Rattle.lookup.specs.Lookup.{isLink}
 use Rattle.ending.specs.declared.Cut.{Cut}
 use Rattle.ending.specs.End.{cutNone, cutUnknown, outOfService}
-use Rattle.changeover.specs.Fail.{stateAt, openFailed, failed}
-use Rattle.changeover.specs.Fail as Fail
-use Rattle.changeover.specs.Timer as Timer
-use Rattle.orders.specs.declared.step.Step.{Step}
+use Rattle.failure.specs.Failure.{stateAt}
+use Rattle.changeover.specs.Fail.{openFailed, failed}
+use Rattle.failure.specs.Failure as Failure
+use Rattle.failure.specs.Overdue as Overdue
+use Rattle.overdue.specs.Expire as Timer
+use Rattle.steps.specs.declared.Step.{Step}
 use Rattle.orders.specs.Carry.{answerReply, withAnswer, endedBy, carried}
 use Rattle.managing.specs.Managed.{asked, managed}
 use Rattle.discrimination.specs.declared.Came.{Came}
@@ -78,10 +80,10 @@ module _ (plan : Plan) where
     -- T1, or T2, expires
     pub timer-exactly : (link timer : ℕ) → endingByTimer plan a link timer .ends ≡ true
         → ExactBy (endingByTimer plan a link timer) (Timer.expired plan a link timer)
-    unfolding endingByTimer Timer.expired Timer.replyOf
+    unfolding endingByTimer Timer.expired Overdue.replyOf
     timer-exactly link timer ends =
         let known = recordAt (a .links) link in
-        let reply = Timer.replyOf plan (a .links) link timer (a .reports) in
+        let reply = Overdue.replyOf plan (a .links) link timer (a .reports) in
         let odd = not (eqb timer 1 || eqb timer 2) in
         let passed =
         rows-passed (leb 32 link || (odd || short (a .reports))) (not (isLink plan link)) (not (eqb (known .timer) timer)) []
@@ -94,9 +96,9 @@ module _ (plan : Plan) where
 
     -- a waiting link fails
     pub failure-exactly : (link : ℕ) → endingByFailure plan a link .ends ≡ true → ExactBy (endingByFailure plan a link) (failed plan a link)
-    unfolding endingByFailure failed Fail.replyOf
+    unfolding endingByFailure failed Failure.replyOf
     failure-exactly link ends =
-        let reply = Fail.replyOf plan (a .links) link (a .reports) in
+        let reply = Failure.replyOf plan (a .links) link (a .reports) in
         let waits = eqb (stateAt (a .links) link) 1 in
         let opened = eqb (stateAt (a .links) link) 2 in
         let is = and-eq-true-iff (eqb reply 0) waits .0 ends in

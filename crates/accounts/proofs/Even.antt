@@ -11,7 +11,7 @@ use Rattle.replies.specs.Reply.{plain, done, ifDone}
 use Rattle.replies.specs.Areas.{Areas, Outcome, outcome, judged, refused, withLinks, withMarks}
 use Rattle.numbers.specs.Numbers.{taken}
 use Rattle.numbers.specs.Taken.{withTaken, takenOnly}
-use Rattle.queueing.specs.Head.{both}
+use Rattle.heads.specs.Head.{both}
 use Rattle.queueing.specs.Queue.{nextOf}
 use Rattle.promises.proofs.Outcomes.{if-done, if-both-done}
 use Rattle.ledger.specs.Held.{heldOf, givenOf}

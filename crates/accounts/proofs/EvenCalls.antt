@@ -12,10 +12,10 @@ use Rattle.replies.specs.declared.Answer.{Answer}
 use Rattle.replies.specs.Areas.{Areas, Outcome}
 use Rattle.sending.specs.Send as Send
 use Rattle.changeover.specs.Fail.{failed}
-use Rattle.changeover.specs.Timer as Change
+use Rattle.overdue.specs.Expire as Change
 use Rattle.changeback.specs.Service.{intoService}
 use Rattle.rerouting.specs.Timer.{expiredT6, expiredT10}
-use Rattle.passing.specs.Host.{sent}
+use Rattle.offering.specs.Host.{sent}
 use Rattle.receiving.specs.Receive.{received}
 use Rattle.node.specs.declared.call.Event.{Event}
 use Rattle.node.specs.declared.call.Event.the-variants.{IntoService, Failure, Send, Acknowledgement, Received, FromHost, T1, T2, T3, T4, T6, T8, T10, RouteList}

@@ -11,8 +11,8 @@ use borrow.Author.Tests.{leb-true}
 use Rattle.plan.specs.declared.data.Plan.{Plan}
 use Rattle.counting.specs.Counting.{inRange, distance}
 use Rattle.counting.proofs.Laws.{in-range}
-use Rattle.rows.specs.declared.link.LinkRecord.{LinkRecord}
-use Rattle.rows.specs.Rows.{recordAt}
+use Rattle.linkrecords.specs.declared.LinkRecord.{LinkRecord}
+use Rattle.linkrecords.specs.LinkRecords.{recordAt}
 use Rattle.rings.specs.Ring.{countOf}
 use Rattle.reports.specs.Report.{short}
 use Rattle.replies.specs.Areas.{Areas}

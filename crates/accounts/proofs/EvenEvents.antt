@@ -11,7 +11,8 @@ use borrow.Author.Tests.{ltb-true, ltb-false, eqb-true, not-false}
 use Rattle.plan.specs.declared.data.Plan.{Plan}
 use Rattle.plan.specs.Find.{placeOf}
 use Rattle.plan.proofs.Split.{both-false}
-use Rattle.rows.specs.Rows.{recordAt, withRecord, withFlag}
+use Rattle.flags.specs.Flags.{withFlag}
+use Rattle.linkrecords.specs.LinkRecords.{recordAt, withRecord}
 use Rattle.rings.specs.Ring.{countOf}
 use Rattle.store.specs.Sound.{tally}
 use Rattle.reports.specs.Report.{log, short, room}
@@ -19,24 +20,28 @@ use Rattle.replies.specs.Reply.{done}
 use Rattle.replies.specs.Areas.{Areas, areas, Outcome, outcome, judged}
 use Rattle.lookup.specs.Lookup.{isLink, slcOf, adjacentOf}
 use Rattle.access.specs.Change.{isAccessible}
-use Rattle.queueing.specs.Head.{Queues, both}
-use Rattle.queueing.specs.Leave.{State, state, retired}
+use Rattle.heads.specs.Head.{Queues, both}
+use Rattle.retiring.specs.Leave.{State, state, retired}
 use Rattle.numbers.specs.Numbers.{upTo}
 use Rattle.making.specs.Make.{Held, heldIn, withHeld, withMade, makesReply}
-use Rattle.moving.specs.Move.{released}
+use Rattle.releasing.specs.Release.{released}
 use Rattle.ending.specs.End.{cutNone, cutUnknown, outOfService}
-use Rattle.changeover.specs.Fail.{stateAt, orderOf, changing, timerOf, openFailed, failed}
-use Rattle.changeover.specs.Fail as Fail
-use Rattle.changeover.specs.Timer as Change
-use Rattle.changeback.specs.declared.pairs.Sources.{Sources}
-use Rattle.changeback.specs.Service.{declares, sourcesIn, linksIn, declared, resumed, intoService}
+use Rattle.failure.specs.Failure.{stateAt, orderOf, changing}
+use Rattle.changeover.specs.Fail.{timerOf, openFailed, failed}
+use Rattle.failure.specs.Failure as Failure
+use Rattle.failure.specs.Overdue as Overdue
+use Rattle.overdue.specs.Expire as Change
+use Rattle.pairs.specs.declared.Sources.{Sources}
+use Rattle.inservice.specs.InService.{declares, sourcesIn, linksIn}
+use Rattle.changeback.specs.Service.{declared, resumed, intoService}
 use Rattle.changeback.specs.Service as Service
 use Rattle.current.specs.Flags.{t6}
-use Rattle.rerouting.specs.Timer.{replyT6, replyT10, testOf, expiredT6, expiredT10}
-use Rattle.rerouting.specs.Timer as Rerouting
-use Rattle.sending.specs.Acknowledge.{outOfRange, isOpen, bInRange}
-use Rattle.sending.specs.Acknowledge as Acknowledge
-use Rattle.sending.proofs.Window.{retired-and-left}
+use Rattle.rerouting.specs.Timer.{replyT6, expiredT6, expiredT10}
+use Rattle.expiry.specs.Expiry.{replyT10, testOf}
+use Rattle.expiry.specs.Expiry as Expiry
+use Rattle.acknowledging.specs.Acknowledge.{outOfRange, isOpen, bInRange}
+use Rattle.acknowledging.specs.Acknowledge as Acknowledge
+use Rattle.acknowledging.proofs.Window.{retired-and-left}
 use Rattle.promises.proofs.Outcomes.{RegularIn, by-test, if-both-done, rows-passed, link-within}
 use Rattle.ledger.specs.Reported.{reportsIn, dropsOf}
 use Rattle.ledger.proofs.FreeKinds.{kinds-retired}
@@ -61,9 +66,9 @@ module _ (test : ℕ → Bool) (a : Areas) (octets : List ℕ) (regular : Regula
 
     -- the failure of a link
     pub failure-even : EvenBy test a (failed plan a link) []
-    unfolding failed Fail.replyOf
+    unfolding failed Failure.replyOf
     failure-even =
-        unjudged-even test a long (Fail.replyOf plan (a .links) link (a .reports)) _
+        unjudged-even test a long (Failure.replyOf plan (a .links) link (a .reports)) _
         (λ done.
         let waits = eqb (stateAt (a .links) link) 1 in
         let opened = eqb (stateAt (a .links) link) 2 in
@@ -78,11 +83,11 @@ module _ (test : ℕ → Bool) (a : Areas) (octets : List ℕ) (regular : Regula
 
     -- T1, or T2, expires
     pub change-ends-even : (timer : ℕ) → EvenBy test a (Change.expired plan a link timer) []
-    unfolding Change.expired Change.replyOf
+    unfolding Change.expired Overdue.replyOf
     change-ends-even timer =
         let known = recordAt (a .links) link in
         let odd = not (eqb timer 1 || eqb timer 2) in
-        unjudged-even test a long (Change.replyOf plan (a .links) link timer (a .reports)) _
+        unjudged-even test a long (Overdue.replyOf plan (a .links) link timer (a .reports)) _
         (λ done.
         let passed = rows-passed (leb 32 link || (odd || short (a .reports))) (not (isLink plan link)) (not (eqb (known .timer) timer)) [] done in
         ending-even test a octets regular long plan link (link-within link (odd || short (a .reports)) (passed .0))
@@ -122,7 +127,7 @@ module _ (test : ℕ → Bool) (a : Areas) (octets : List ℕ) (regular : Regula
       unjudged-even test a long (replyT6 plan (a .marks) x (a .reports)) _
       (λ done.
       let wide : short (a .reports) ≡ false =
-      by-test (λ (n : ℕ). n ≡ 0 → short (a .reports) ≡ false) (short (a .reports)) 1 (Rerouting.replyOf plan (a .marks) x t6)
+      by-test (λ (n : ℕ). n ≡ 0 → short (a .reports) ≡ false) (short (a .reports)) 1 (Expiry.replyOf plan (a .marks) x t6)
       (λ e none. absurd (omega arith))
       (λ e none. e)
       done

@@ -12,8 +12,8 @@ use Rattle.plan.specs.declared.data.Plan.{Plan}
 use Rattle.rings.specs.Ring.{countOf}
 use Rattle.replies.specs.Areas.{Areas}
 use Rattle.routing.specs.Which.{none}
-use Rattle.access.specs.Way.{forManagement}
-use Rattle.queueing.specs.Head.{Queues, both}
+use Rattle.ways.specs.Way.{forManagement}
+use Rattle.heads.specs.Head.{Queues, both}
 use Rattle.queueing.specs.Queue.{managementReply, managementQueues, managementRow, managementArrivals, counted}
 use Rattle.making.specs.declared.Draft.{Draft}
 use Rattle.making.specs.Make.{Held, held, pathOf, hasPath, made, heldIn, withHeld, withMade}

@@ -18,9 +18,8 @@ use Rattle.numbers.specs.Numbers.{taken}
 use Rattle.numbers.specs.Taken.{withTaken, takenOnly}
 use Rattle.making.specs.Make.{withMade}
 use Rattle.ending.specs.End.{outOfService}
-use Rattle.orders.specs.declared.step.Step.{Step}
-use Rattle.orders.specs.Step.{answer}
-use Rattle.orders.specs.Ask.{draft}
+use Rattle.steps.specs.declared.Step.{Step}
+use Rattle.steps.specs.Step.{answer, draft}
 use Rattle.orders.specs.Carry.{answerReply, withAnswer, endedBy, carried}
 use Rattle.promises.proofs.Outcomes.{RegularIn, by-test, both-by-test}
 use Rattle.promises.proofs.KeepsOrders.{with-taken-regular}

@@ -11,12 +11,12 @@ use borrow.Author.Tests.{ltb-true, not-false}
 use Rattle.plan.specs.declared.data.Plan.{Plan}
 use Rattle.plan.specs.Find.{placeOf}
 use Rattle.plan.proofs.Split.{both-false}
-use Rattle.rows.specs.Rows.{flagAt}
+use Rattle.flags.specs.Flags.{flagAt}
 use Rattle.wire.specs.declared.header.Label.{Label}
 use Rattle.replies.specs.Reply.{done, ifDone}
 use Rattle.replies.specs.Areas.{Areas, Outcome, outcome, judged, refused, withMarks}
 use Rattle.routing.specs.Which.{none}
-use Rattle.queueing.specs.Head.{both}
+use Rattle.heads.specs.Head.{both}
 use Rattle.queueing.specs.Queue.{userReply, userArrivals, counted}
 use Rattle.numbers.specs.Numbers.{taken}
 use Rattle.numbers.specs.Taken.{withTaken}
@@ -26,8 +26,9 @@ use Rattle.current.specs.Flags.{t6}
 use Rattle.discrimination.specs.declared.Came.{Came}
 use Rattle.discrimination.specs.declared.Came.the-variants.{Malformed, Foreign, Delivered, Managed, Passed}
 use Rattle.discrimination.specs.Discrimination.{fromHost}
-use Rattle.passing.specs.Pass.{linkOf, unreachable, ringBy, ringOf, placeReply, queued, prohibitedTo, tells, marksTold, notReached, passed}
-use Rattle.passing.specs.Host.{refuses, offered, fromHostBy, sent}
+use Rattle.passage.specs.Passage.{linkOf, unreachable, ringBy, ringOf, placeReply, queued, prohibitedTo, tells}
+use Rattle.passing.specs.Pass.{marksTold, notReached, passed}
+use Rattle.offering.specs.Host.{refuses, offered, fromHostBy, sent}
 use Rattle.promises.proofs.Outcomes.{RegularIn, by-test, if-done}
 use Rattle.accounts.proofs.Even.{KindsIn, Even, even-none, even-links, even-marks, EvenBy, untold, taken-even, refused-even, unjudged-even}
 use Rattle.ledger.proofs.FreeKinds.{kinds-user}

@@ -9,7 +9,7 @@ use lib.Dec.{eqb, leb}
 use lib.ListN.{length}
 use Rattle.plan.specs.declared.data.Plan.{Plan}
 use Rattle.plan.proofs.Split.{both-false}
-use Rattle.rows.specs.Rows.{recordAt}
+use Rattle.linkrecords.specs.LinkRecords.{recordAt}
 use Rattle.rings.specs.Ring.{countOf}
 use Rattle.store.specs.Sound.{tally}
 use Rattle.network.specs.declared.management.Message.{Message}
@@ -23,9 +23,10 @@ use Rattle.lookup.specs.Lookup.{isLink}
 use Rattle.access.specs.Change.{isAccessible, changesTold}
 use Rattle.numbers.specs.Numbers.{taken}
 use Rattle.numbers.specs.Taken.{withTaken}
-use Rattle.waiting.specs.Wait.{answers, answered}
-use Rattle.rerouting.specs.Mark.{counts, marksAfter, accessTold, transferred}
-use Rattle.managing.specs.Managed.{answeredBy, asked, carriedOut, managed}
+use Rattle.waiting.specs.Wait.{answers, answered, answeredBy}
+use Rattle.marking.specs.Mark.{counts, marksAfter}
+use Rattle.rerouting.specs.Transfer.{accessTold, transferred}
+use Rattle.managing.specs.Managed.{asked, carriedOut, managed}
 use Rattle.discrimination.specs.declared.Came.{Came}
 use Rattle.discrimination.specs.declared.Came.the-variants.{Malformed, Foreign, Delivered, Managed, Passed}
 use Rattle.discrimination.specs.Discrimination.{fromLink}

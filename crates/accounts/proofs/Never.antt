@@ -10,10 +10,10 @@ use borrow.Author.Tests.{eq-eqb, not-true}
 use borrow.Table.Steps.{cases}
 use Rattle.plan.specs.declared.data.Plan.{Plan}
 use Rattle.plan.specs.Find.{placeOf, isFound}
-use Rattle.routing.specs.State.{serves, isMarked, isOpen, carries}
+use Rattle.serving.specs.State.{serves, isMarked, isOpen, carries}
 use Rattle.routing.specs.Which.{none}
 use Rattle.routing.proofs.Used.{chosen-is}
-use Rattle.access.specs.Way.{forManagement, linkFor, wayOf}
+use Rattle.ways.specs.Way.{forManagement, linkFor, wayOf}
 
 module _ (plan : Plan) (links marks : List ℕ) (never : ℕ) where
   -- that link doesn't serve

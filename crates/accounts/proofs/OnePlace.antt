@@ -17,7 +17,7 @@ use Rattle.store.specs.Sound.{bit, sum, tally, is, Kinds}
 use Rattle.store.proofs.Sums.{sum-none}
 use Rattle.store.proofs.FreshStore.{other-queue, fresh-kinds}
 use Rattle.replies.specs.Areas.{Areas}
-use Rattle.queueing.specs.Head.{both}
+use Rattle.heads.specs.Head.{both}
 use Rattle.configuration.specs.Configure.{configured}
 use Rattle.configuration.proofs.Made.{configured-sound}
 use Rattle.start.specs.Start.{freshSpans, freshRings, freshArrivals}

@@ -6,8 +6,8 @@ use mathlib.Core.List.{List, [], _++_, append-nil}
 use Prim.Native.Nat.{ℕ, _<_}
 use lib.Dec.{eqb, ltb}
 use Rattle.plan.specs.declared.data.Plan.{Plan}
-use Rattle.rows.specs.declared.link.LinkRecord.{LinkRecord}
-use Rattle.rows.specs.Rows.{recordAt}
+use Rattle.linkrecords.specs.declared.LinkRecord.{LinkRecord}
+use Rattle.linkrecords.specs.LinkRecords.{recordAt}
 use Rattle.rings.specs.Ring.{countOf}
 use Rattle.network.specs.declared.management.Message.{Message}
 use Rattle.network.specs.declared.management.Message.the-variants.{COO, COA, CBD, CBA, ECO, ECA, TFP, TFA, RST}
@@ -16,9 +16,10 @@ use Rattle.lookup.specs.Lookup.{linkNamed}
 use Rattle.making.specs.declared.Draft.{Draft}
 use Rattle.ending.specs.declared.Cut.{Cut}
 use Rattle.ending.specs.End.{cutAt, cutUnknown, cutNone}
-use Rattle.orders.specs.declared.step.Step.{Step}
-use Rattle.orders.specs.Step.{nothing, answer, answerAndEnd, end}
-use Rattle.orders.specs.Ask.{draft, lastReceived, orderStep, emergencyOf, askCOO, askECO, ackStep, askCOA, askECA, askCBD, allows, askRST}
+use Rattle.steps.specs.declared.Step.{Step}
+use Rattle.steps.specs.Step.{nothing, answer, answerAndEnd, end, draft, orderStep, ackStep}
+use Rattle.asking.specs.Ask.{lastReceived, emergencyOf, askCOO, askECO, askCOA, askECA}
+use Rattle.requests.specs.Request.{askCBD, allows, askRST}
 use Rattle.orders.specs.Carry.{answerReply}
 use Rattle.managing.specs.Managed.{asked}
 use Rattle.discrimination.specs.declared.Came.{Came}

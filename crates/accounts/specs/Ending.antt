@@ -6,16 +6,16 @@ use mathlib.Core.Bool.{Bool, false, _&&_}
 use mathlib.Core.List.{List, _++_}
 use lib.Dec.{eqb}
 use Rattle.plan.specs.declared.data.Plan.{Plan}
-use Rattle.rows.specs.Rows.{recordAt}
+use Rattle.linkrecords.specs.LinkRecords.{recordAt}
 use Rattle.replies.specs.Reply.{ifDone}
 use Rattle.replies.specs.Areas.{Areas}
-use Rattle.queueing.specs.Leave.{State, state}
+use Rattle.retiring.specs.Leave.{State, state}
 use Rattle.numbers.specs.Taken.{withTaken}
 use Rattle.ending.specs.declared.Cut.{Cut}
 use Rattle.ending.specs.End.{cutNone, cutUnknown}
-use Rattle.changeover.specs.Fail as Fail
-use Rattle.changeover.specs.Timer as Timer
-use Rattle.orders.specs.declared.step.Step.{Step}
+use Rattle.failure.specs.Failure as Failure
+use Rattle.failure.specs.Overdue as Overdue
+use Rattle.steps.specs.declared.Step.{Step}
 use Rattle.orders.specs.Carry.{answerReply, withAnswer}
 use Rattle.managing.specs.Managed.{asked}
 use Rattle.discrimination.specs.declared.Came.{Came}
@@ -41,7 +41,7 @@ noEnding a = record { ends = false; from = a; link = 32; parts = cutNone }
 unfoldable pub endingByTimer : Plan → Areas → ℕ → ℕ → Ending
 endingByTimer plan a link timer =
     record {
-      ends = eqb (Timer.replyOf plan (a .links) link timer (a .reports)) 0;
+      ends = eqb (Overdue.replyOf plan (a .links) link timer (a .reports)) 0;
       from = a;
       link = link;
       parts = cutUnknown (recordAt (a .links) link);
@@ -51,7 +51,7 @@ endingByTimer plan a link timer =
 unfoldable pub endingByFailure : Plan → Areas → ℕ → Ending
 endingByFailure plan a link =
     record {
-      ends = eqb (Fail.replyOf plan (a .links) link (a .reports)) 0 && eqb (Fail.stateAt (a .links) link) 1;
+      ends = eqb (Failure.replyOf plan (a .links) link (a .reports)) 0 && eqb (Failure.stateAt (a .links) link) 1;
       from = a;
       link = link;
       parts = cutNone;

@@ -7,7 +7,7 @@ use Rattle.replies.specs.declared.Answer.{Answer}
 use Rattle.node.specs.declared.call.Event.{Event}
 use Rattle.node.specs.declared.call.Event.the-variants.{IntoService, Failure, Send, Acknowledgement, Received, FromHost, T1, T2, T3, T4, T6, T8, T10, RouteList}
 use Rattle.pages.specs.Page.{ended}
-use Rattle.pages.specs.Reported.{allReported}
+use Rattle.reportlines.specs.Reported.{allReported}
 use Rattle.showing.specs.declared.shows.Shows.{Shows}
 use Rattle.showing.specs.declared.shows.Shows.the-variants.{Sent, Delivered, Listed, Nothing}
 use Rattle.showing.specs.Reply.{replied, behind}

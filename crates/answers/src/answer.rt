@@ -1,7 +1,7 @@
 // All lines of a call.
 use node::call::Event;
-use pages::reported::put_reports;
 use replies::Answer;
+use reportlines::put_reports;
 use showing::listed::put_routes;
 use showing::reply::put_reply;
 use showing::shows::Shows;

@@ -8,12 +8,12 @@ use crate::link::open;
 use crate::link::send_all;
 use crate::show::show;
 use crate::taking::take_in;
-use changeover::fail::fail;
+use changeover::fail;
+use linkrecords::load_link;
 use network::management::Message;
 use network::management::write_message;
 use planwords::read::code;
 use planwords::read::ni;
-use rows::link::load_link;
 use wire::header::Label;
 
 pub fn run(

@@ -2,7 +2,7 @@
 use crate::letter::Round;
 use crate::letter::counted;
 use crate::letter::with_sls;
-use passing::host::send_host;
+use offering::send_host;
 use text::part::between;
 
 // So many of one message, with SLS from the first on; how many are queued.

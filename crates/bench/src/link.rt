@@ -1,8 +1,8 @@
 // A link's part of the work: brought into service, emptied.
-use changeback::service::into_service;
+use acknowledging::acknowledge;
+use changeback::into_service;
 use replies::Answer;
-use sending::acknowledge::acknowledge;
-use sending::send::send;
+use sending::send;
 use waiting::expire_wait;
 
 // Links 0 to 3 come into service, one after the other, and open.

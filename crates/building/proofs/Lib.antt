@@ -1,4 +1,3 @@
-pub mod DestinationKept
-pub mod Faults
 pub mod Kept
-pub mod LinkKept
+pub mod SetKept
+pub mod Tests

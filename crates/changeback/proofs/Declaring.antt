@@ -14,8 +14,9 @@ use Rattle.queueing.specs.Queue.{managementReply}
 use Rattle.queueing.proofs.Queued.{ManagementLeaves}
 use Rattle.making.specs.Make.{Held, held}
 use Rattle.making.proofs.Making.{lacking-kept}
-use Rattle.changeback.specs.declared.pairs.Sources.{Sources}
-use Rattle.changeback.specs.Service.{declares, declareReply, declared}
+use Rattle.pairs.specs.declared.Sources.{Sources}
+use Rattle.inservice.specs.InService.{declares}
+use Rattle.changeback.specs.Service.{declareReply, declared}
 
 module _ (plan : Plan) (link : ℕ) (from : Sources) (spans rings rows arrivals : List ℕ) where
   -- the reply and the areas are those that it leaves, in the order of the contract

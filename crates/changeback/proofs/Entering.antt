@@ -9,8 +9,8 @@ use lib.Dec.{eqb}
 use lib.ListN.{getD}
 use borrow.Author.Tests.{eq-eqb, ne-eqb}
 use Rattle.plan.specs.declared.data.Plan.{Plan}
-use Rattle.rows.specs.declared.link.LinkRecord.{LinkRecord}
-use Rattle.rows.specs.Rows.{withRecord}
+use Rattle.linkrecords.specs.declared.LinkRecord.{LinkRecord}
+use Rattle.linkrecords.specs.LinkRecords.{withRecord}
 use Rattle.replies.specs.declared.Answer.{Answer}
 use Rattle.replies.specs.Reply.{plain, done, ifDone}
 use Rattle.replies.specs.Areas.{Areas, areas, Outcome, outcome, Leaves}
@@ -21,19 +21,10 @@ use Rattle.access.specs.Change.{accessesOf, isAccessible, changesTold}
 use Rattle.access.proofs.Filled.{says-each}
 use Rattle.access.proofs.Same.{told-same}
 use Rattle.making.specs.Make.{Held, held, heldIn}
-use Rattle.changeback.specs.declared.pairs.Sources.{Sources}
-use Rattle.changeback.specs.Pairs.{sourcesOf}
-use Rattle.changeback.specs.Service.{inService, comesAs, sourcesIn, linksIn, replyFirst, declareReply, replyOf, declared, resumed, intoService}
+use Rattle.pairs.specs.declared.Sources.{Sources}
+use Rattle.inservice.specs.InService.{comesAs, sourcesIn, linksIn, replyFirst}
+use Rattle.changeback.specs.Service.{declareReply, replyOf, declared, resumed, intoService}
 use Rattle.changeback.proofs.Declaring.{DeclareLeaves, declared-kept}
-
--- the links with the link open stand for those after it
-pub sources-stored : (plan : Plan) (links marks : List ℕ) (link : ℕ) (known : LinkRecord) (after : List ℕ) (from : Sources)
-    → known ≡ inService 2 false 0 → after ≡ withRecord links link known → from ≡ sourcesOf plan links after marks link
-    → from ≡ sourcesIn plan links marks link
-unfolding sourcesIn
-sources-stored plan links marks link known after from is stored found =
-    found
-    ∙ ap (λ (l : List ℕ). sourcesOf plan links l marks link) (stored ∙ ap (λ (r : LinkRecord). withRecord links link r) is)
 
 module _ (plan : Plan) (a : Areas) (link : ℕ) where
   -- refused before its pairs are looked at

@@ -7,8 +7,8 @@ use Prim.Native.Nat.{ℕ, _≤_, _<_}
 use lib.Dec.{eqb}
 use borrow.Author.Tests.{eq-eqb, ne-eqb}
 use Rattle.plan.specs.declared.data.Plan.{Plan}
-use Rattle.rows.specs.declared.link.LinkRecord.{LinkRecord}
-use Rattle.rows.specs.Rows.{recordAt, withRecord}
+use Rattle.linkrecords.specs.declared.LinkRecord.{LinkRecord}
+use Rattle.linkrecords.specs.LinkRecords.{recordAt, withRecord}
 use Rattle.replies.specs.declared.Answer.{Answer}
 use Rattle.replies.specs.Reply.{plain, done}
 use Rattle.replies.specs.Areas.{Areas, areas, Outcome, outcome, Leaves}
@@ -19,7 +19,8 @@ use Rattle.making.specs.Make.{Held, held, heldIn, made, isMade}
 use Rattle.making.proofs.Making.{MakeLeaves}
 use Rattle.ending.specs.declared.Cut.{Cut}
 use Rattle.ending.specs.End.{cutNone, outOfService}
-use Rattle.changeover.specs.Fail.{stateAt, replyOf, orderOf, changing, timerOf, openFailed, failed}
+use Rattle.failure.specs.Failure.{stateAt, replyOf, orderOf, changing, timerBy}
+use Rattle.changeover.specs.Fail.{timerOf, openFailed, failed}
 use Rattle.replies.proofs.Judging.{leaves-refused, leaves-done, whole}
 use Rattle.ending.proofs.Ended.{EndLeaves, out-whole}
 
@@ -36,27 +37,27 @@ module _ (plan : Plan) (a : Areas) (link : ℕ) where
         ∙ ap (λ (d : Draft). made plan (a .links) (a .marks) d (heldIn a)) says
 
     -- T2 with a COO, else T1
-    timer-is : (timer : ℕ) → timer ≡ cond (sent .made) 2 1 → timer ≡ timerOf plan a link
+    timer-is : timerBy (sent .made) ≡ timerOf plan a link
     unfolding timerOf
-    timer-is timer started =
-        started
-        ∙ ap (λ (m : Made). cond (m .made) 2 1) (left .0)
-        ∙ ap (λ (d : Draft). cond (isMade plan (a .links) (a .marks) (a .spans) (a .arrivals) d) 2 1) says
+    timer-is =
+        ap (λ (m : Made). timerBy (m .made)) (left .0)
+        ∙ ap (λ (d : Draft). timerBy (isMade plan (a .links) (a .marks) (a .spans) (a .arrivals) d)) says
 
-    pub open-fails : (known : LinkRecord) → known ≡ recordAt (a .links) link → (timer : ℕ) → timer ≡ cond (sent .made) 2 1
-        → (next : LinkRecord) → next ≡ changing known timer → (links : List ℕ) → links ≡ withRecord (a .links) link next
+    pub open-fails : (known : LinkRecord) → known ≡ recordAt (a .links) link
+        → (next : LinkRecord) → next ≡ changing known (timerBy (sent .made))
+        → (links : List ℕ) → links ≡ withRecord (a .links) link next
         → (answer : Answer) → answer ≡ done 0
         → Leaves (openFailed plan a link) answer (areas links (a .marks) spans rings rows arrivals (a .reports))
     unfolding openFailed
-    open-fails known loaded timer started next changes links stored answer tells =
+    open-fails known loaded next changes links stored answer tells =
         let all : Answer → List ℕ → Held → Outcome =
         λ r l n. outcome r (areas l (a .marks) (n .queues .spans) (n .queues .rings) (n .rows) (n .arrivals) (a .reports))
         in
         let links-are : links ≡ withRecord (a .links) link (changing (recordAt (a .links) link) (timerOf plan a link)) =
         stored
         ∙ ap (λ (r : LinkRecord). withRecord (a .links) link r) changes
-        ∙ ap (λ (r : LinkRecord). withRecord (a .links) link (changing r timer)) loaded
-        ∙ ap (λ (t : ℕ). withRecord (a .links) link (changing (recordAt (a .links) link) t)) (timer-is timer started)
+        ∙ ap (λ (r : LinkRecord). withRecord (a .links) link (changing r (timerBy (sent .made)))) loaded
+        ∙ ap (λ (t : ℕ). withRecord (a .links) link (changing (recordAt (a .links) link) t)) timer-is
         in
         leaves (openFailed plan a link) answer (areas links (a .marks) spans rings rows arrivals (a .reports))
         (ap (λ (r : Answer). all r links (held spans rings rows arrivals)) tells

@@ -1,2 +1,1 @@
-pub mod Expiring
 pub mod Failing

@@ -1,2 +1,1 @@
 pub mod Fail
-pub mod Timer

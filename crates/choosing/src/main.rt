@@ -1,12 +1,12 @@
 // Chooses the link of one message after the other and adds their numbers up, to be timed from outside: `choosing OUT COUNT`, with a
 // configuration on standard input, whose links but the first OUT are open.
-use access::way::for_users;
 use libc::STDERR_FILENO;
 use libc::STDOUT_FILENO;
 use numerals::decimal::Number;
 use numerals::decimal::decimal;
 use planstore::words_of;
-use routing::choose::choose;
+use routing::choose;
+use ways::for_users;
 
 fn main() {
     let count = number(2, 1000000000);

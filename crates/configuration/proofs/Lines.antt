@@ -15,9 +15,9 @@ use Rattle.text.specs.Part.{lf, marked, lineAt, split, isEmpty}
 use borrow.Table.Steps.{cases}
 use Rattle.text.proofs.Parts.{cut-none, first-part, split-last, next-onward, next-within}
 use Rattle.plan.specs.declared.data.Plan.{Plan}
-use Rattle.building.specs.declared.add.Added.{Added}
+use Rattle.building.specs.declared.Added.{Added}
 use Rattle.plan.specs.Data.{emptyPlan}
-use Rattle.building.specs.Add.{refused}
+use Rattle.building.specs.Building.{refused}
 use Rattle.statement.specs.declared.Word.{Word}
 use Rattle.statement.specs.declared.Statement.{Statement}
 use Rattle.statement.specs.declared.Said.{Said}

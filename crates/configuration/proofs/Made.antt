@@ -8,19 +8,23 @@ use lib.Dec.{ltb, eqb}
 use lib.ListN.{length}
 use Rattle.text.specs.Part.{lf, split, isEmpty}
 use Rattle.plan.specs.declared.data.Plan.{Plan}
-use Rattle.building.specs.declared.add.Added.{Added}
+use Rattle.building.specs.declared.Added.{Added}
 use Rattle.plan.specs.Data.{emptyPlan}
-use Rattle.building.specs.Add.{refused}
+use Rattle.building.specs.Building.{refused, Kept}
 use Rattle.plan.specs.Sound.{Sound}
-use Rattle.building.proofs.Kept.{node-kept, set-kept, link-kept, route-kept}
+use Rattle.building.proofs.Kept.{refuse}
+use Rattle.setlines.proofs.Kept.{node-kept, set-kept}
+use Rattle.linklines.proofs.Kept.{link-kept}
+use Rattle.routelines.proofs.Kept.{route-kept}
 use Rattle.plan.proofs.Sound.{empty-sound}
 use Rattle.statement.specs.declared.Word.{Word}
 use Rattle.statement.specs.declared.Word.the-variants.{Node, Set, Link, Route, Other}
+use Rattle.statement.specs.declared.Statement.{Statement}
 use Rattle.statement.specs.declared.Said.{Said}
 use Rattle.statement.specs.declared.Said.the-variants.{Says, Faulty}
 use Rattle.statement.specs.Statement.{readStatement}
 use Rattle.configuration.specs.declared.configure.Configured.{Configured}
-use Rattle.configuration.specs.Configure.{addBy, addSaid, addLine, addLines, done, faulty, configured}
+use Rattle.configuration.specs.Configure.{addBy, add, addSaid, addLine, addLines, done, faulty, configured}
 use Rattle.configuration.proofs.Lines.{noNode}
 
 -- of two outcomes that are sound each, the one that a test picks is
@@ -33,15 +37,19 @@ either-made true a b p q = p
 either-made false a b p q = q
 
 module _ (plan : Plan) (sound : Sound plan) where
-  by-sound : (word : Word) (first second third : ℕ) → Sound (addBy word plan first second third .plan)
-  by-sound Node first second third = node-kept plan sound first second .still-sound
-  by-sound Set first second third = set-kept plan sound first second .still-sound
-  by-sound Link first second third = link-kept plan sound first second third .still-sound
-  by-sound Route first second third = route-kept plan sound first second third .still-sound
-  by-sound Other first second third = sound
+  by-word-kept : (word : Word) (first second third : ℕ) → Kept plan (addBy word plan first second third)
+  by-word-kept Node first second third = node-kept plan sound first second
+  by-word-kept Set first second third = set-kept plan sound first second
+  by-word-kept Link first second third = link-kept plan sound first second third
+  by-word-kept Route first second third = route-kept plan sound first second third
+  by-word-kept Other first second third = refuse plan sound 20
+
+  -- whatever the statement is
+  pub added-sound : (statement : Statement) → Kept plan (add plan statement)
+  added-sound statement = by-word-kept (statement .word) (statement .first) (statement .second) (statement .third)
 
   said-sound : (said : Said) → Sound (addSaid plan said .plan)
-  said-sound (Says statement) = by-sound (statement .word) (statement .first) (statement .second) (statement .third)
+  said-sound (Says statement) = added-sound statement .still-sound
   said-sound (Faulty fault) = sound
 
   line-sound : (line : List ℕ) (ended : Bool) → Sound (addLine plan line ended .plan)

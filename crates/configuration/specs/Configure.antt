@@ -6,9 +6,12 @@ use lib.ListN.{length, getD}
 use lib.Dec.{ltb, eqb}
 use Rattle.text.specs.Part.{split, isEmpty, lf, tab}
 use Rattle.plan.specs.declared.data.Plan.{Plan}
-use Rattle.building.specs.declared.add.Added.{Added}
+use Rattle.building.specs.declared.Added.{Added}
 use Rattle.plan.specs.Data.{emptyPlan}
-use Rattle.building.specs.Add.{refused, addNode, addSet, addLink, addRoute}
+use Rattle.building.specs.Building.{refused}
+use Rattle.setlines.specs.SetLines.{addNode, addSet}
+use Rattle.linklines.specs.LinkLines.{addLink}
+use Rattle.routelines.specs.RouteLines.{addRoute}
 use Rattle.statement.specs.declared.Statement.{Statement}
 use Rattle.statement.specs.declared.Said.{Said}
 use Rattle.statement.specs.declared.Said.the-variants.{Says, Faulty}

@@ -1,12 +1,12 @@
 // A configuration read line by line.
-use building::add::Added;
-use building::add::add_link;
-use building::add::add_node;
-use building::add::add_route;
-use building::add::add_set;
+use building::Added;
 use lines::line_from;
+use linklines::add_link;
 use plan::data::Plan;
 use plan::data::empty_plan;
+use routelines::add_route;
+use setlines::add_node;
+use setlines::add_set;
 use statement::Said;
 use statement::Statement;
 use statement::Word;

@@ -14,7 +14,7 @@ use Rattle.rings.proofs.Queues.{taken-other, put-other}
 use Rattle.store.specs.Sound.{bit, tally, is, Sound}
 use Rattle.store.proofs.Held.{taken-tally, put-tally}
 use Rattle.routing.specs.Which.{none}
-use Rattle.queueing.specs.Head.{Queues, headOf, moved, freeRing, freed}
+use Rattle.heads.specs.Head.{Queues, headOf, moved, freeRing, freed}
 use Rattle.moving.specs.Move.{apart}
 use Rattle.promises.proofs.Counts.{move-sound}
 use Rattle.ledger.proofs.Balance.{moved-some, moved-none, head-some, head-long, head-room, free-there}

@@ -10,27 +10,32 @@ use lib.Dec.{eqb, leb}
 use borrow.Author.Tests.{ltb-true}
 use Rattle.plan.specs.declared.data.Plan.{Plan}
 use Rattle.plan.specs.Find.{placeOf}
-use Rattle.rows.specs.Rows.{recordAt, withFlag}
+use Rattle.flags.specs.Flags.{withFlag}
+use Rattle.linkrecords.specs.LinkRecords.{recordAt}
 use Rattle.store.specs.Sound.{Kinds}
 use Rattle.reports.specs.Report.{short}
 use Rattle.replies.specs.Areas.{Areas}
 use Rattle.lookup.specs.Lookup.{isLink, slcOf, adjacentOf}
-use Rattle.queueing.specs.Head.{Queues}
-use Rattle.queueing.specs.Leave.{State, state, retired}
+use Rattle.heads.specs.Head.{Queues}
+use Rattle.retiring.specs.Leave.{State, state, retired}
 use Rattle.queueing.specs.Queue.{nextOf}
 use Rattle.numbers.specs.Numbers.{upTo}
 use Rattle.making.specs.Make.{Held, heldIn, makesReply}
 use Rattle.ending.specs.End.{cutNone, cutUnknown, outOfService}
-use Rattle.changeover.specs.Fail.{stateAt, orderOf, openFailed, failed}
-use Rattle.changeover.specs.Fail as Fail
-use Rattle.changeover.specs.Timer as Change
-use Rattle.changeback.specs.declared.pairs.Sources.{Sources}
-use Rattle.changeback.specs.Service.{declares, sourcesIn, declared, intoService}
+use Rattle.failure.specs.Failure.{stateAt, orderOf}
+use Rattle.changeover.specs.Fail.{openFailed, failed}
+use Rattle.failure.specs.Failure as Failure
+use Rattle.failure.specs.Overdue as Overdue
+use Rattle.overdue.specs.Expire as Change
+use Rattle.pairs.specs.declared.Sources.{Sources}
+use Rattle.inservice.specs.InService.{declares, sourcesIn}
+use Rattle.changeback.specs.Service.{declared, intoService}
 use Rattle.changeback.specs.Service as Service
 use Rattle.current.specs.Flags.{t6}
-use Rattle.rerouting.specs.Timer.{replyT6, replyT10, testOf, expiredT6, expiredT10}
-use Rattle.sending.specs.Acknowledge.{outOfRange, isOpen}
-use Rattle.sending.specs.Acknowledge as Acknowledge
+use Rattle.rerouting.specs.Timer.{replyT6, expiredT6, expiredT10}
+use Rattle.expiry.specs.Expiry.{replyT10, testOf}
+use Rattle.acknowledging.specs.Acknowledge.{outOfRange, isOpen}
+use Rattle.acknowledging.specs.Acknowledge as Acknowledge
 use Rattle.node.specs.declared.call.Event.{Event}
 use Rattle.node.specs.declared.call.Event.the-variants.{IntoService, Failure, Send, Acknowledgement, Received, FromHost, T1, T2, T3, T4, T6, T8, T10, RouteList}
 use Rattle.node.specs.Memory.{Memory}
@@ -50,9 +55,9 @@ module _ (plan : Plan) (a : Areas) (octets : List ℕ) (regular : RegularIn a oc
 
   -- an open one, or one that waits
   failure-stays : (link : ℕ) → StaysBy plan a octets regular (failed plan a link)
-  unfolding failed Fail.replyOf
+  unfolding failed Failure.replyOf
   failure-stays link =
-      judged-stays a (Fail.replyOf plan (a .links) link (a .reports)) _
+      judged-stays a (Failure.replyOf plan (a .links) link (a .reports)) _
       (λ done.
       let waits = eqb (stateAt (a .links) link) 1 in
       let opened = eqb (stateAt (a .links) link) 2 in
@@ -64,11 +69,11 @@ module _ (plan : Plan) (a : Areas) (octets : List ℕ) (regular : RegularIn a oc
 
   -- T1, or T2, expires
   change-stays : (link timer : ℕ) → StaysBy plan a octets regular (Change.expired plan a link timer)
-  unfolding Change.expired Change.replyOf
+  unfolding Change.expired Overdue.replyOf
   change-stays link timer =
       let known = recordAt (a .links) link in
       let odd = not (eqb timer 1 || eqb timer 2) in
-      judged-stays a (Change.replyOf plan (a .links) link timer (a .reports)) _
+      judged-stays a (Overdue.replyOf plan (a .links) link timer (a .reports)) _
       (λ done.
       let passed = rows-passed (leb 32 link || (odd || short (a .reports))) (not (isLink plan link)) (not (eqb (known .timer) timer)) [] done in
       out-stays a a octets (stays-none a) regular plan link (omega (arith, link-within link (odd || short (a .reports)) (passed .0)))

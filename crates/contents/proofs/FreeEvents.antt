@@ -7,8 +7,8 @@ use Prim.Native.Nat.{ℕ, _≤_, _<_}
 use native.Mathlib.Omega.{arith}
 use Rattle.plan.specs.declared.data.Plan.{Plan}
 use Rattle.replies.specs.Areas.{Areas, Outcome, judged, refused}
-use Rattle.queueing.specs.Head.{Queues, both}
-use Rattle.queueing.specs.Leave.{State, state, retired, dropped}
+use Rattle.heads.specs.Head.{Queues, both}
+use Rattle.retiring.specs.Leave.{State, state, retired, dropped}
 use Rattle.queueing.specs.Queue.{nextOf}
 use Rattle.ending.specs.declared.Cut.{Cut}
 use Rattle.ending.specs.End.{linksOut, cleared, ended, outOfService}

@@ -9,9 +9,10 @@ use borrow.Table.Steps.{cases}
 use Rattle.plan.specs.declared.data.Plan.{Plan}
 use Rattle.rings.specs.Ring.{countOf}
 use Rattle.routing.specs.Which.{none}
-use Rattle.queueing.specs.Head.{Queues, headOf, moved, freed, repeat}
-use Rattle.queueing.specs.Leave.{State, retired, droppedOne, dropped}
-use Rattle.moving.specs.Move.{pointOf, goesTo, movedOne, movedAll, apart, releasedOne, released}
+use Rattle.heads.specs.Head.{Queues, headOf, moved, freed, repeat}
+use Rattle.retiring.specs.Leave.{State, retired, droppedOne, dropped}
+use Rattle.moving.specs.Move.{pointOf, goesTo, movedOne, movedAll, apart}
+use Rattle.releasing.specs.Release.{releasedOne, released}
 use Rattle.promises.proofs.Leaving.{repeated}
 use Rattle.contents.proofs.Free.{SoundIn, Freer, freer-none, freer-on, freer-move, freer-freed}
 

@@ -6,7 +6,7 @@ use Prim.Native.Nat.{ℕ, _≤_, _<_}
 use native.Mathlib.Omega.{arith}
 use lib.Dec.{eqb}
 use Rattle.plan.specs.declared.data.Plan.{Plan}
-use Rattle.rows.specs.Rows.{recordAt}
+use Rattle.linkrecords.specs.LinkRecords.{recordAt}
 use Rattle.rings.specs.Ring.{countOf}
 use Rattle.network.specs.declared.management.Message.{Message}
 use Rattle.network.specs.declared.management.Message.the-variants.{COO, COA, CBD, CBA, ECO, ECA, TFP, TFA, RST}
@@ -15,13 +15,15 @@ use Rattle.replies.specs.Areas.{Areas, Outcome, outcome, judged}
 use Rattle.numbers.specs.Taken.{withTaken, takenOnly}
 use Rattle.making.specs.Make.{withMade, makesReply}
 use Rattle.ending.specs.End.{outOfService}
-use Rattle.orders.specs.declared.step.Step.{Step}
+use Rattle.steps.specs.declared.Step.{Step}
 use Rattle.orders.specs.Carry.{answerReply, withAnswer, endedBy, carried}
-use Rattle.waiting.specs.Wait.{answers}
-use Rattle.rerouting.specs.Mark.{counts, transferred}
-use Rattle.managing.specs.Managed.{answeredBy, asked, carriedOut, managed}
-use Rattle.passing.specs.Pass.{prohibitedTo, tells, notReached}
-use Rattle.passing.specs.Host.{sent}
+use Rattle.waiting.specs.Wait.{answers, answeredBy}
+use Rattle.marking.specs.Mark.{counts}
+use Rattle.rerouting.specs.Transfer.{transferred}
+use Rattle.managing.specs.Managed.{asked, carriedOut, managed}
+use Rattle.passage.specs.Passage.{prohibitedTo, tells}
+use Rattle.passing.specs.Pass.{notReached}
+use Rattle.offering.specs.Host.{sent}
 use Rattle.promises.proofs.Outcomes.{RegularIn, by-test}
 use Rattle.promises.proofs.KeepsMaking.{made-regular}
 use Rattle.promises.proofs.KeepsOrders.{with-taken-regular}

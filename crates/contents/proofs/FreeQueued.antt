@@ -12,12 +12,12 @@ use borrow.Table.Steps.{cases}
 use Rattle.plan.specs.declared.data.Plan.{Plan}
 use Rattle.plan.specs.Find.{placeOf}
 use Rattle.plan.proofs.Split.{alike}
-use Rattle.rows.specs.Rows.{flagAt}
+use Rattle.flags.specs.Flags.{flagAt}
 use Rattle.wire.specs.declared.header.Label.{Label}
 use Rattle.moving.specs.Move.{apart}
 use Rattle.current.specs.Flags.{t6}
-use Rattle.passing.specs.Pass.{linkOf, unreachable, ringBy, ringOf}
-use Rattle.rows.specs.declared.slot.Slot.{Slot}
+use Rattle.passage.specs.Passage.{linkOf, unreachable, ringBy, ringOf}
+use Rattle.slotrows.specs.declared.Slot.{Slot}
 use Rattle.rings.specs.Ring.{countOf}
 use Rattle.slots.specs.Message.{fits}
 use Rattle.slots.proofs.Messages.{fits-there}
@@ -27,7 +27,7 @@ use Rattle.store.proofs.KindsApart.{taken-user}
 use Rattle.replies.specs.Areas.{Areas}
 use Rattle.replies.proofs.Rows.{none-applies}
 use Rattle.routing.specs.Which.{none}
-use Rattle.queueing.specs.Head.{Queues, headOf}
+use Rattle.heads.specs.Head.{Queues, headOf}
 use Rattle.queueing.specs.Queue.{nextOf, noUserPlace, noManagementPlace, userReply, userQueues, userRow, managementReply, managementQueues, managementRow}
 use Rattle.making.specs.declared.Draft.{Draft}
 use Rattle.making.specs.Make.{Held, pathOf, hasPath, made, heldIn, withMade}

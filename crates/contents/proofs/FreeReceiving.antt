@@ -15,8 +15,9 @@ use Rattle.replies.specs.Areas.{Areas, Outcome}
 use Rattle.discrimination.specs.declared.Came.{Came}
 use Rattle.discrimination.specs.declared.Came.the-variants.{Malformed, Foreign, Delivered, Managed, Passed}
 use Rattle.discrimination.specs.Discrimination.{fromLink, fromHost}
-use Rattle.passing.specs.Pass.{unreachable, ringOf, placeReply, queued, passed}
-use Rattle.passing.specs.Host.{refuses, offered, fromHostBy, sent}
+use Rattle.passage.specs.Passage.{unreachable, ringOf, placeReply, queued}
+use Rattle.passing.specs.Pass.{passed}
+use Rattle.offering.specs.Host.{refuses, offered, fromHostBy, sent}
 use Rattle.receiving.specs.Receive.{replyOf, receivedBy, received}
 use Rattle.promises.proofs.Outcomes.{RegularIn, by-test}
 use Rattle.accounts.proofs.Small.{Small, link-small, host-small}

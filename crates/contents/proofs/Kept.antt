@@ -11,13 +11,13 @@ use lib.ListN.{length}
 use borrow.Author.Tests.{le-ltb}
 use borrow.Table.Steps.{cases}
 use Rattle.plan.proofs.Split.{split, alike}
-use Rattle.rows.specs.declared.slot.Slot.{Slot}
+use Rattle.slotrows.specs.declared.Slot.{Slot}
 use Rattle.slots.specs.Message.{fits, userRows, managementRows}
 use Rattle.slots.specs.Message as Message
 use Rattle.slots.specs.Write.{Write, slotOf, rowsWith, octetsWith}
 use Rattle.slots.proofs.ReadBack.{user-read, management-read, row-kept, octets-kept, rows-length}
 use Rattle.replies.specs.Areas.{Areas}
-use Rattle.queueing.specs.Head.{Queues, headOf}
+use Rattle.heads.specs.Head.{Queues, headOf}
 use Rattle.queueing.specs.Queue.{nextOf, counted, userReply, userRow, userOctets, userArrivals, managementReply, managementRow, managementArrivals}
 use Rattle.contents.specs.Content.{Content, content, Same, Newer, Kept}
 

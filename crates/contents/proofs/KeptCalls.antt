@@ -12,14 +12,18 @@ use Rattle.replies.specs.Areas.{Areas, areas, Outcome, outcome, judged}
 use Rattle.lookup.specs.Lookup.{slcOf, adjacentOf}
 use Rattle.making.specs.Make.{Held, heldIn, withMade, makesReply}
 use Rattle.ending.specs.End.{cutNone, cutUnknown, outOfService}
-use Rattle.rows.specs.Rows.{recordAt}
-use Rattle.changeover.specs.Fail.{stateAt, orderOf, openFailed, failed}
-use Rattle.changeover.specs.Fail as Fail
-use Rattle.changeover.specs.Timer as Change
-use Rattle.changeback.specs.declared.pairs.Sources.{Sources}
-use Rattle.changeback.specs.Service.{declares, sourcesIn, declared, intoService}
+use Rattle.linkrecords.specs.LinkRecords.{recordAt}
+use Rattle.failure.specs.Failure.{stateAt, orderOf}
+use Rattle.changeover.specs.Fail.{openFailed, failed}
+use Rattle.failure.specs.Failure as Failure
+use Rattle.failure.specs.Overdue as Overdue
+use Rattle.overdue.specs.Expire as Change
+use Rattle.pairs.specs.declared.Sources.{Sources}
+use Rattle.inservice.specs.InService.{declares, sourcesIn}
+use Rattle.changeback.specs.Service.{declared, intoService}
 use Rattle.changeback.specs.Service as Service
-use Rattle.rerouting.specs.Timer.{replyT6, replyT10, testOf, expiredT6, expiredT10}
+use Rattle.rerouting.specs.Timer.{replyT6, expiredT6, expiredT10}
+use Rattle.expiry.specs.Expiry.{replyT10, testOf}
 use Rattle.node.specs.declared.call.Event.{Event}
 use Rattle.node.specs.declared.call.Event.the-variants.{IntoService, Failure, Send, Acknowledgement, Received, FromHost, T1, T2, T3, T4, T6, T8, T10, RouteList}
 use Rattle.node.specs.Memory.{Memory}
@@ -44,7 +48,7 @@ module _ (plan : Plan) (a : Areas) (octets : List ℕ) (all : length (a .rows) �
   failure-kept : (link : ℕ) → KeptBy a octets (failed plan a link)
   unfolding failed
   failure-kept link =
-      judged-kept a octets (Fail.replyOf plan (a .links) link (a .reports)) _
+      judged-kept a octets (Failure.replyOf plan (a .links) link (a .reports)) _
       (by-test (KeptBy a octets) (eqb (stateAt (a .links) link) 1) (outOfService plan a link cutNone) (openFailed plan a link)
       (λ e. out-kept a octets plan a (kept-none now) link cutNone)
       (λ e. open-fails link))
@@ -54,7 +58,7 @@ module _ (plan : Plan) (a : Areas) (octets : List ℕ) (all : length (a .rows) �
   unfolding Change.expired
   change-ends-kept link timer =
       let parts = cutUnknown (recordAt (a .links) link) in
-      judged-kept a octets (Change.replyOf plan (a .links) link timer (a .reports)) (outOfService plan a link parts)
+      judged-kept a octets (Overdue.replyOf plan (a .links) link timer (a .reports)) (outOfService plan a link parts)
       (out-kept a octets plan a (kept-none now) link parts)
 
   -- a link comes into service: its CBD is written

@@ -8,14 +8,14 @@ use lib.ListN.{length}
 use Rattle.plan.specs.declared.data.Plan.{Plan}
 use Rattle.replies.specs.Reply.{done}
 use Rattle.replies.specs.Areas.{Areas, Outcome, outcome, judged, refused}
-use Rattle.queueing.specs.Head.{both}
+use Rattle.heads.specs.Head.{both}
 use Rattle.queueing.specs.Queue.{managementQueues, managementRow, managementArrivals}
 use Rattle.numbers.specs.Taken.{withTaken, takenOnly}
 use Rattle.making.specs.declared.Draft.{Draft}
 use Rattle.making.specs.Make.{Held, pathOf, hasPath, made, heldIn, withMade}
 use Rattle.ending.specs.declared.Cut.{Cut}
 use Rattle.ending.specs.End.{outOfService}
-use Rattle.orders.specs.declared.step.Step.{Step}
+use Rattle.steps.specs.declared.Step.{Step}
 use Rattle.orders.specs.Carry.{answerReply, withAnswer, endedBy, carried}
 use Rattle.promises.proofs.Outcomes.{by-test, if-done}
 use Rattle.contents.specs.Content.{Content, content, Kept}

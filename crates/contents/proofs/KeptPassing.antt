@@ -9,14 +9,15 @@ use Rattle.plan.specs.declared.data.Plan.{Plan}
 use Rattle.wire.specs.declared.header.Label.{Label}
 use Rattle.replies.specs.Reply.{plain, done}
 use Rattle.replies.specs.Areas.{Areas, Outcome, outcome, judged, refused, withMarks}
-use Rattle.queueing.specs.Head.{both}
+use Rattle.heads.specs.Head.{both}
 use Rattle.numbers.specs.Taken.{withTaken}
 use Rattle.making.specs.Make.{withMade, makesReply}
 use Rattle.discrimination.specs.declared.Came.{Came}
 use Rattle.discrimination.specs.declared.Came.the-variants.{Malformed, Foreign, Delivered, Managed, Passed}
 use Rattle.discrimination.specs.Discrimination.{fromHost}
-use Rattle.passing.specs.Pass.{unreachable, placeReply, queued, octetsQueued, prohibitedTo, tells, marksTold, notReached, passed, octetsPassed}
-use Rattle.passing.specs.Host.{refuses, offered, fromHostBy, sent, octetsOffered, octetsBy, octetsSent}
+use Rattle.passage.specs.Passage.{unreachable, placeReply, queued, octetsQueued, prohibitedTo, tells}
+use Rattle.passing.specs.Pass.{marksTold, notReached, passed, octetsPassed}
+use Rattle.offering.specs.Host.{refuses, offered, fromHostBy, sent, octetsOffered, octetsBy, octetsSent}
 use Rattle.promises.proofs.Outcomes.{by-test, both-by-test}
 use Rattle.contents.specs.Content.{Kept}
 use Rattle.contents.proofs.Kept.{contentIn, kept-none, user-kept, refused-kept}

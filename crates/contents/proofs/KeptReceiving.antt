@@ -9,9 +9,10 @@ use Rattle.plan.specs.declared.data.Plan.{Plan}
 use Rattle.network.specs.declared.management.Message.{Message}
 use Rattle.network.specs.declared.management.Message.the-variants.{COO, COA, CBD, CBA, ECO, ECA, TFP, TFA, RST}
 use Rattle.replies.specs.Areas.{Areas, refused}
-use Rattle.waiting.specs.Wait.{answers}
-use Rattle.rerouting.specs.Mark.{counts, transferred}
-use Rattle.managing.specs.Managed.{answeredBy, asked, carriedOut, managed}
+use Rattle.waiting.specs.Wait.{answers, answeredBy}
+use Rattle.marking.specs.Mark.{counts}
+use Rattle.rerouting.specs.Transfer.{transferred}
+use Rattle.managing.specs.Managed.{asked, carriedOut, managed}
 use Rattle.discrimination.specs.declared.Came.{Came}
 use Rattle.discrimination.specs.declared.Came.the-variants.{Malformed, Foreign, Delivered, Managed, Passed}
 use Rattle.discrimination.specs.Discrimination.{fromLink}

@@ -8,7 +8,7 @@ use native.Mathlib.Omega.{arith}
 use Rattle.plan.specs.declared.data.Plan.{Plan}
 use Rattle.plan.specs.Sound as Plan
 use Rattle.plan.proofs.Split.{alike}
-use Rattle.rows.specs.declared.slot.Slot.{Slot}
+use Rattle.slotrows.specs.declared.Slot.{Slot}
 use Rattle.rings.specs.Ring.{queue}
 use Rattle.store.specs.Sound.{is, held}
 use Rattle.node.specs.Memory.{Memory}

@@ -6,7 +6,7 @@ use Prim.Native.Nat.{ℕ, _+_, _≤_, _<_}
 use native.Mathlib.Omega.{arith}
 use lib.ListN.{length, getD}
 use Rattle.plan.specs.declared.data.Plan.{Plan}
-use Rattle.rows.specs.declared.slot.Slot.{Slot}
+use Rattle.slotrows.specs.declared.Slot.{Slot}
 use Rattle.rows.specs.Rows.{wordAt}
 use Rattle.rings.proofs.Runs.{run-same, run-at}
 use Rattle.slots.specs.Message.{octetsAt}

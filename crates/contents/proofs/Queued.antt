@@ -10,22 +10,22 @@ use lib.ListN.{length}
 use lib.Seq.{getD-set-same}
 use borrow.Author.Tests.{eqb-true, eqb-false, eq-eqb}
 use Rattle.plan.specs.declared.data.Plan.{Plan}
-use Rattle.rows.specs.declared.slot.Slot.{Slot}
+use Rattle.slotrows.specs.declared.Slot.{Slot}
 use Rattle.rings.specs.Ring.{countOf}
 use Rattle.slots.specs.Message.{fits}
 use Rattle.slots.proofs.Messages.{fits-there}
 use Rattle.slots.proofs.ReadBack.{user-read, octets-read, row-kept}
 use Rattle.slots.specs.Write.{Write}
-use Rattle.rows.specs.Rows.{slotAt}
+use Rattle.slotrows.specs.SlotRows.{slotAt}
 use Rattle.store.specs.Sound.{Sound, Kinds}
 use Rattle.store.proofs.KindsApart.{taken-user}
 use Rattle.wire.specs.declared.header.Label.{Label}
 use Rattle.replies.specs.Reply.{done}
 use Rattle.replies.specs.Areas.{Areas, Outcome, judged, refused}
 use Rattle.replies.proofs.Rows.{none-applies}
-use Rattle.queueing.specs.Head.{Queues, both, headOf}
+use Rattle.heads.specs.Head.{Queues, both, headOf}
 use Rattle.queueing.specs.Queue.{nextOf, noUserPlace, userReply, userQueues, userRow, userOctets, userArrivals}
-use Rattle.passing.specs.Pass.{unreachable, ringOf, placeReply, queued, octetsQueued}
+use Rattle.passage.specs.Passage.{unreachable, ringOf, placeReply, queued, octetsQueued}
 use Rattle.promises.proofs.Outcomes.{by-test}
 use Rattle.ledger.proofs.Balance.{head-found}
 use Rattle.contents.specs.Content.{Content, content, nextIn, Holds}

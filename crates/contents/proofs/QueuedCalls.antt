@@ -17,8 +17,9 @@ use Rattle.making.specs.Make.{withMade, makesReply}
 use Rattle.discrimination.specs.declared.Came.{Came}
 use Rattle.discrimination.specs.declared.Came.the-variants.{Malformed, Foreign, Delivered, Managed, Passed}
 use Rattle.discrimination.specs.Discrimination.{fromLink, fromHost}
-use Rattle.passing.specs.Pass.{unreachable, placeReply, queued, octetsQueued, prohibitedTo, tells, marksTold, notReached, passed, octetsPassed}
-use Rattle.passing.specs.Host.{refuses, offered, fromHostBy, sent, octetsOffered, octetsBy, octetsSent}
+use Rattle.passage.specs.Passage.{unreachable, placeReply, queued, octetsQueued, prohibitedTo, tells}
+use Rattle.passing.specs.Pass.{marksTold, notReached, passed, octetsPassed}
+use Rattle.offering.specs.Host.{refuses, offered, fromHostBy, sent, octetsOffered, octetsBy, octetsSent}
 use Rattle.receiving.specs.Receive.{replyOf, receivedBy, received, octetsReceived}
 use Rattle.receiving.specs.Receive as Receive
 use Rattle.promises.proofs.Outcomes.{by-test, both-by-test}

@@ -11,7 +11,8 @@ use lib.Seq.{take-append-seam}
 use borrow.Author.Tests.{lt-ltb, le-leb, ltb-false, eq-eqb}
 use Rattle.plan.specs.declared.data.Plan.{Plan}
 use Rattle.plan.proofs.Split.{both-false}
-use Rattle.rows.specs.Rows.{recordAt, slotAt}
+use Rattle.linkrecords.specs.LinkRecords.{recordAt}
+use Rattle.slotrows.specs.SlotRows.{slotAt}
 use Rattle.rings.specs.Ring.{countOf}
 use Rattle.slots.specs.Message.{octetsAt, copies, copiedSize, copied}
 use Rattle.slots.proofs.Messages.{fits-there, octets-length}

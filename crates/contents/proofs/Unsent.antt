@@ -11,7 +11,7 @@ use borrow.Author.Tests.{eqb-true, eq-eqb, leb-false}
 use borrow.Table.Steps.{cases}
 use Rattle.plan.specs.declared.data.Plan.{Plan}
 use Rattle.plan.proofs.Split.{both-false}
-use Rattle.rows.specs.Rows.{recordAt}
+use Rattle.linkrecords.specs.LinkRecords.{recordAt}
 use Rattle.rings.specs.declared.ring.Taken.{Taken}
 use Rattle.rings.specs.Ring.{countOf, queue}
 use Rattle.rings.proofs.Queues.{queue-length, at-queue}
@@ -20,7 +20,7 @@ use Rattle.store.proofs.Sums.{sum-two, sum-part}
 use Rattle.store.proofs.Tallies.{tally-some}
 use Rattle.store.proofs.Moves.{slot-below}
 use Rattle.lookup.specs.Lookup.{isLink}
-use Rattle.queueing.specs.Head.{Queues}
+use Rattle.heads.specs.Head.{Queues}
 use Rattle.sending.specs.Send.{replyOf, firstUnsent}
 use Rattle.node.specs.declared.call.Event.the-variants.{Send}
 use Rattle.node.specs.Memory.{Memory}

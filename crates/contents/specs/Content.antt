@@ -6,13 +6,13 @@ use mathlib.Core.Logic.{_⊎_}
 use mathlib.Core.List.{List}
 use lib.ListN.{length, take}
 use Rattle.plan.specs.declared.data.Plan.{Plan}
-use Rattle.rows.specs.declared.slot.Slot.{Slot}
-use Rattle.rows.specs.Rows.{slotAt}
+use Rattle.slotrows.specs.declared.Slot.{Slot}
+use Rattle.slotrows.specs.SlotRows.{slotAt}
 use Rattle.slots.specs.Message.{octetsAt}
 use Rattle.wire.specs.declared.header.Label.{Label}
 use Rattle.discrimination.specs.declared.Came.the-variants.{Passed}
 use Rattle.discrimination.specs.Discrimination.{fromLink}
-use Rattle.queueing.specs.Head.{both, headOf}
+use Rattle.heads.specs.Head.{both, headOf}
 use Rattle.queueing.specs.Queue.{nextOf}
 use Rattle.sending.specs.Send.{firstUnsent}
 use Rattle.node.specs.declared.call.Event.{Event}

@@ -3,7 +3,7 @@ use Prim.Native.Nat.{ℕ}
 use mathlib.Core.List.{List}
 use Rattle.plan.specs.declared.data.Plan.{Plan}
 use Rattle.lookup.specs.Lookup.{setOf}
-use Rattle.access.specs.Way.{currentLink}
+use Rattle.ways.specs.Way.{currentLink}
 
 -- "its current set": that of its current link
 unfoldable pub currentSet : Plan → List ℕ → List ℕ → ℕ → ℕ

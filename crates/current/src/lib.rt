@@ -1,6 +1,6 @@
 // The set that a destination uses.
-use access::way::current;
 use lookup::set_of;
+use ways::current;
 ghost use Rattle.planwords.specs.Words.{planOf};
 ghost use mathlib.Core.Path.{_≡_};
 ghost use Rattle.current.specs.Current.{currentSet};

@@ -7,7 +7,7 @@ use Rattle.plan.specs.declared.data.Plan.{Plan}
 use Rattle.replies.specs.declared.Answer.{Answer}
 use Rattle.replies.specs.Reply.{done}
 use Rattle.replies.specs.Areas.{Areas, areas, outcome}
-use Rattle.queueing.specs.Leave.{state}
+use Rattle.retiring.specs.Leave.{state}
 use Rattle.ending.specs.declared.Cut.{Cut}
 use Rattle.ending.specs.End.{linksOut, ended, outOfService}
 

@@ -8,14 +8,14 @@ use Prim.Native.Nat.{ℕ}
 use lib.ListN.{getD}
 use Rattle.plan.specs.declared.data.Plan.{Plan}
 use Rattle.counting.specs.Counting.{inRange, distance}
-use Rattle.rows.specs.declared.link.LinkRecord.{LinkRecord}
-use Rattle.rows.specs.Rows.{recordAt, withRecord}
+use Rattle.linkrecords.specs.declared.LinkRecord.{LinkRecord}
+use Rattle.linkrecords.specs.LinkRecords.{recordAt, withRecord}
 use Rattle.access.specs.Change.{isAccessible, accessesOf, changesTold}
 use Rattle.access.proofs.Filled.{says-each}
 use Rattle.access.proofs.Same.{told-same}
-use Rattle.queueing.specs.Head.{Queues, both}
-use Rattle.queueing.specs.Leave.{State, state, retired, dropped}
-use Rattle.queueing.proofs.States.{BothAre, AllAre, both-whole, all-whole, all-same}
+use Rattle.heads.specs.Head.{Queues, both}
+use Rattle.retiring.specs.Leave.{State, state, retired, dropped}
+use Rattle.retiring.proofs.States.{BothAre, AllAre, both-whole, all-whole, all-same}
 use Rattle.moving.specs.Move.{movedAll}
 use Rattle.ending.specs.declared.Cut.{Cut}
 use Rattle.ending.specs.End.{cut, cutAt, outOf, linksOut, cleared, ended}

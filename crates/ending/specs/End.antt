@@ -5,12 +5,12 @@ use mathlib.Core.Bool.{false, cond}
 use mathlib.Core.List.{List}
 use Rattle.plan.specs.declared.data.Plan.{Plan}
 use Rattle.counting.specs.Counting.{inRange, distance}
-use Rattle.rows.specs.declared.link.LinkRecord.{LinkRecord}
-use Rattle.rows.specs.Rows.{recordAt, withRecord}
+use Rattle.linkrecords.specs.declared.LinkRecord.{LinkRecord}
+use Rattle.linkrecords.specs.LinkRecords.{recordAt, withRecord}
 use Rattle.replies.specs.Reply.{done}
 use Rattle.replies.specs.Areas.{Areas, areas, Outcome, outcome}
 use Rattle.access.specs.Change.{isAccessible, changesTold}
-use Rattle.queueing.specs.Leave.{State, state, retired, dropped}
+use Rattle.retiring.specs.Leave.{State, state, retired, dropped}
 use Rattle.moving.specs.Move.{movedAll}
 use Rattle.ending.specs.declared.Cut.{Cut}
 

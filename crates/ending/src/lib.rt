@@ -1,17 +1,17 @@
 // How a link goes out of service: what becomes of its queue, and what is reported.
-use access::change::accesses;
-use access::change::report_changes;
+use access::accesses;
+use access::report_changes;
 use counting::distance;
 use counting::in_range;
+use linkrecords::LinkRecord;
+use linkrecords::load_link;
+use linkrecords::store_link;
 use moving::move_all;
-use queueing::leave::drop_first;
-use queueing::leave::retire;
-use rows::link::LinkRecord;
-use rows::link::load_link;
-use rows::link::store_link;
+use retiring::drop_first;
+use retiring::retire;
 ghost use Rattle.planwords.specs.Words.{planOf};
 ghost use mathlib.Core.Path.{_≡_};
-ghost use Rattle.queueing.specs.Leave.{state};
+ghost use Rattle.retiring.specs.Leave.{state};
 ghost use Rattle.ending.specs.End as End;
 
 // What becomes of a queue: how many are retired, how many then dropped, and for which reason; the rest moves.

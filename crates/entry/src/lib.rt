@@ -4,7 +4,7 @@ use kinds::Form;
 use kinds::Kind;
 use kinds::fields_of;
 use kinds::form_of;
-use kinds::read_kind;
+use kindwords::read_kind;
 use numerals::decimal::Number;
 use numerals::decimal::decimal;
 use octets::hex::Octets;

@@ -8,10 +8,10 @@ use Rattle.rings.specs.Run.{run}
 use Rattle.rings.specs.Ring.{queue, entry, countOf, atOf, takeOf, spansTaken, roomIn, spansPut, ringsPut}
 use Rattle.rings.specs.Move.{spansMoved, ringsMoved}
 use Rattle.reports.specs.Report.{told}
-use Rattle.access.specs.Way.{linkFor, wayOf}
+use Rattle.ways.specs.Way.{linkFor, wayOf}
 use Rattle.access.specs.Change.{isAccessible, codeOf, toldOne, toldFrom}
-use Rattle.queueing.specs.Head.{headOf, moved, freed, repeat}
-use Rattle.queueing.specs.Leave.{retired, droppedOne, dropped}
+use Rattle.heads.specs.Head.{headOf, moved, freed, repeat}
+use Rattle.retiring.specs.Leave.{retired, droppedOne, dropped}
 use Rattle.moving.specs.Move.{goesTo, movedOne, movedAll}
 use Rattle.ending.specs.End.{cutAt, linksOut, cleared, ended}
 use Rattle.examples.specs.Table.{AllHold, table}

@@ -6,10 +6,12 @@ use mathlib.Core.List.{List, [], _∷_}
 use lib.Dec.{eqb}
 use lib.ListN.{length, getD, replicate}
 use lib.Seq.{sets}
-use Rattle.rows.specs.declared.link.LinkRecord.{LinkRecord}
-use Rattle.rows.specs.Rows.{recordAt, withRecord, withSpan, withSlot}
+use Rattle.linkrecords.specs.declared.LinkRecord.{LinkRecord}
+use Rattle.linkrecords.specs.LinkRecords.{recordAt, withRecord}
+use Rattle.slotrows.specs.SlotRows.{withSlot}
+use Rattle.spanrows.specs.SpanRows.{withSpan}
 use Rattle.rings.specs.Ring.{queue}
-use Rattle.queueing.specs.Leave.{State, state}
+use Rattle.retiring.specs.Leave.{State, state}
 use Rattle.ending.specs.End.{cutAt, ended}
 use Rattle.examples.specs.Set.{inStates, oneSet}
 

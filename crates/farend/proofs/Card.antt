@@ -8,8 +8,8 @@ use Rattle.card.specs.declared.Record.{Record}
 use Rattle.card.specs.Card as Card
 use Rattle.plan.specs.declared.data.Plan.{Plan}
 use Rattle.plan.specs.Sound as Plan
-use Rattle.rows.specs.declared.link.LinkRecord.{LinkRecord}
-use Rattle.rows.specs.Rows.{recordAt}
+use Rattle.linkrecords.specs.declared.LinkRecord.{LinkRecord}
+use Rattle.linkrecords.specs.LinkRecords.{recordAt}
 use Rattle.replies.specs.Areas.{Areas}
 use Rattle.configuration.specs.Configure.{configured}
 use Rattle.configuration.proofs.Made.{configured-sound}

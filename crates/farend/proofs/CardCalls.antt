@@ -17,12 +17,12 @@ use Rattle.card.specs.Card as Card
 use Rattle.card.proofs.Laws.{number-on, accepts-as}
 use Rattle.plan.specs.declared.data.Plan.{Plan}
 use Rattle.plan.specs.Sound as Plan
-use Rattle.rows.specs.declared.link.LinkRecord.{LinkRecord}
-use Rattle.rows.specs.Rows.{recordAt}
+use Rattle.linkrecords.specs.declared.LinkRecord.{LinkRecord}
+use Rattle.linkrecords.specs.LinkRecords.{recordAt}
 use Rattle.replies.specs.Areas.{Areas}
 use Rattle.replies.proofs.Rows.{none-applies}
 use Rattle.lookup.specs.Lookup.{isLink}
-use Rattle.sending.specs.Acknowledge as Acknowledge
+use Rattle.acknowledging.specs.Acknowledge as Acknowledge
 use Rattle.node.specs.declared.call.Event.{Event}
 use Rattle.node.specs.declared.call.Event.the-variants.{IntoService, Failure, Send, Acknowledgement, Received, FromHost, T1, T2, T3, T4, T6, T8, T10, RouteList}
 use Rattle.node.specs.Memory.{Memory}

@@ -11,15 +11,15 @@ use lib.ListN.{length}
 use borrow.Author.Tests.{eq-eqb, lt-leb}
 use Rattle.plan.specs.declared.data.Plan.{Plan}
 use Rattle.plan.proofs.Split.{split}
-use Rattle.rows.specs.declared.link.LinkRecord.{LinkRecord}
-use Rattle.rows.specs.Rows.{recordAt}
+use Rattle.linkrecords.specs.declared.LinkRecord.{LinkRecord}
+use Rattle.linkrecords.specs.LinkRecords.{recordAt}
 use Rattle.store.specs.Sound.{tally, is}
 use Rattle.replies.specs.Reply.{first}
 use Rattle.replies.specs.Areas.{Areas}
 use Rattle.lookup.specs.Lookup.{isLink}
 use Rattle.configuration.specs.Configure.{configured}
 use Rattle.configuration.proofs.Made.{configured-sound}
-use Rattle.sending.specs.Acknowledge as Acknowledge
+use Rattle.acknowledging.specs.Acknowledge as Acknowledge
 use Rattle.node.specs.Memory.{Memory}
 use Rattle.promises.specs.Run.{Call, ran, fresh}
 use Rattle.promises.proofs.Reached.{Whole, fresh-record, fresh-regular}

@@ -11,7 +11,7 @@ use Rattle.plan.specs.declared.data.Plan.{Plan}
 use Rattle.store.specs.Sound.{tally, sum}
 use Rattle.store.proofs.Sums.{sum-part}
 use Rattle.replies.specs.Areas.{Areas}
-use Rattle.queueing.specs.Head.{both}
+use Rattle.heads.specs.Head.{both}
 use Rattle.node.specs.declared.call.Event.{Event}
 use Rattle.node.specs.declared.call.Event.the-variants.{IntoService, Failure, Send, Acknowledgement, Received, FromHost, T1, T2, T3, T4, T6, T8, T10, RouteList}
 use Rattle.node.specs.Memory.{Memory}

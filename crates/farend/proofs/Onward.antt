@@ -9,8 +9,8 @@ use native.Mathlib.Omega.{arith}
 use lib.Dec.{lit<}
 use lib.ListN.{length}
 use Rattle.plan.proofs.Split.{alike}
-use Rattle.rows.specs.declared.link.LinkRecord.{LinkRecord}
-use Rattle.rows.specs.Rows.{recordAt}
+use Rattle.linkrecords.specs.declared.LinkRecord.{LinkRecord}
+use Rattle.linkrecords.specs.LinkRecords.{recordAt}
 use Rattle.replies.specs.Areas.{Areas, withLinks, withMarks}
 use Rattle.numbers.specs.Numbers.{taken}
 use Rattle.promises.proofs.Keeping.{loaded-in-range}

@@ -12,29 +12,34 @@ use borrow.Author.Tests.{ltb-true, ltb-false, eqb-true, not-false}
 use Rattle.plan.specs.declared.data.Plan.{Plan}
 use Rattle.plan.specs.Find.{placeOf}
 use Rattle.plan.proofs.Split.{both-false}
-use Rattle.rows.specs.declared.link.LinkRecord.{LinkRecord}
-use Rattle.rows.specs.Rows.{recordAt, withRecord, withAcknowledged, withSent, withFlag}
+use Rattle.linkrecords.specs.declared.LinkRecord.{LinkRecord}
+use Rattle.flags.specs.Flags.{withFlag}
+use Rattle.linkrecords.specs.LinkRecords.{recordAt, withRecord, withAcknowledged, withSent}
 use Rattle.reports.specs.Report.{short, room}
 use Rattle.replies.specs.Areas.{Areas, areas, Outcome, refused, withLinks}
 use Rattle.lookup.specs.Lookup.{isLink, slcOf, adjacentOf}
-use Rattle.queueing.specs.Head.{Queues, both}
-use Rattle.queueing.specs.Leave.{State, state, retired}
+use Rattle.heads.specs.Head.{Queues, both}
+use Rattle.retiring.specs.Leave.{State, state, retired}
 use Rattle.numbers.specs.Numbers.{oneMore, upTo, leftSent}
 use Rattle.making.specs.Make.{Held, heldIn, withHeld, withMade, makesReply}
 use Rattle.ending.specs.End.{cutNone, cutUnknown, outOfService}
-use Rattle.changeover.specs.Fail.{stateAt, orderOf, changing, timerOf, openFailed, failed}
-use Rattle.changeover.specs.Fail as Fail
-use Rattle.changeover.specs.Timer as Change
-use Rattle.changeback.specs.declared.pairs.Sources.{Sources}
-use Rattle.changeback.specs.Service.{declares, comesAs, sourcesIn, linksIn, declared, intoService}
+use Rattle.failure.specs.Failure.{stateAt, orderOf, changing}
+use Rattle.changeover.specs.Fail.{timerOf, openFailed, failed}
+use Rattle.failure.specs.Failure as Failure
+use Rattle.failure.specs.Overdue as Overdue
+use Rattle.overdue.specs.Expire as Change
+use Rattle.pairs.specs.declared.Sources.{Sources}
+use Rattle.inservice.specs.InService.{declares, comesAs, sourcesIn, linksIn}
+use Rattle.changeback.specs.Service.{declared, intoService}
 use Rattle.changeback.specs.Service as Service
-use Rattle.waiting.specs.Wait.{stopped}
+use Rattle.opening.specs.Opening.{stopped}
 use Rattle.waiting.specs.Wait as Wait
 use Rattle.current.specs.Flags.{t6}
-use Rattle.rerouting.specs.Timer.{replyT6, replyT10, testOf, expiredT6, expiredT10}
-use Rattle.rerouting.specs.Timer as Rerouting
+use Rattle.rerouting.specs.Timer.{replyT6, expiredT6, expiredT10}
+use Rattle.expiry.specs.Expiry.{replyT10, testOf}
+use Rattle.expiry.specs.Expiry as Expiry
 use Rattle.sending.specs.Send as Send
-use Rattle.sending.specs.Acknowledge as Acknowledge
+use Rattle.acknowledging.specs.Acknowledge as Acknowledge
 use Rattle.node.specs.declared.call.Event.{Event}
 use Rattle.node.specs.declared.call.Event.the-variants.{IntoService, Failure, Send, Acknowledgement, Received, FromHost, T1, T2, T3, T4, T6, T8, T10, RouteList}
 use Rattle.node.specs.Memory.{Memory}
@@ -59,10 +64,10 @@ module _ (plan : Plan) (a : Areas) (octets : List ℕ) (regular : RegularIn a oc
 
     -- T1, or T2, expires
     timer-onward : (timer : ℕ) → Onward (butOf (endingByTimer plan a link timer)) a (Change.expired plan a link timer .after)
-    unfolding endingByTimer Change.expired Change.replyOf
+    unfolding endingByTimer Change.expired Overdue.replyOf
     timer-onward timer =
         let odd = not (eqb timer 1 || eqb timer 2) in
-        let reply = Change.replyOf plan (a .links) link timer (a .reports) in
+        let reply = Overdue.replyOf plan (a .links) link timer (a .reports) in
         by-done (λ (ends : Bool) (o : Outcome). Onward (cond ends link 32) a (o .after)) reply
         (outOfService plan a link (cutUnknown known))
         (refused reply a)
@@ -83,9 +88,9 @@ module _ (plan : Plan) (a : Areas) (octets : List ℕ) (regular : RegularIn a oc
         (record { acknowledged-same = refl; sent-same = refl; still-out = λ out. absurd (omega (arith, is)) })
 
     failure-onward : Onward (butOf (endingByFailure plan a link)) a (failed plan a link .after)
-    unfolding endingByFailure failed Fail.replyOf
+    unfolding endingByFailure failed Failure.replyOf
     failure-onward =
-        let reply = Fail.replyOf plan (a .links) link (a .reports) in
+        let reply = Failure.replyOf plan (a .links) link (a .reports) in
         let waits = eqb (stateAt (a .links) link) 1 in
         let opened = eqb (stateAt (a .links) link) 2 in
         two-tests (λ (ends : Bool) (o : Outcome). Onward (cond ends link 32) a (o .after)) reply waits (outOfService plan a link cutNone)
@@ -197,7 +202,7 @@ module _ (plan : Plan) (a : Areas) (octets : List ℕ) (regular : RegularIn a oc
       if-done (λ (o : Outcome). Onward 32 a (o .after)) (replyT6 plan (a .marks) x (a .reports)) _ _
       (λ done.
       let wide : short (a .reports) ≡ false =
-      by-test (λ (n : ℕ). n ≡ 0 → short (a .reports) ≡ false) (short (a .reports)) 1 (Rerouting.replyOf plan (a .marks) x t6)
+      by-test (λ (n : ℕ). n ≡ 0 → short (a .reports) ≡ false) (short (a .reports)) 1 (Expiry.replyOf plan (a .marks) x t6)
       (λ e none. absurd (omega arith))
       (λ e none. e)
       done

@@ -13,16 +13,17 @@ use borrow.Table.Elements.{map-app}
 use borrow.Table.Steps.{cases}
 use Rattle.plan.specs.declared.data.Plan.{Plan}
 use Rattle.plan.proofs.Split.{alike}
-use Rattle.rows.specs.Rows.{recordAt}
+use Rattle.linkrecords.specs.LinkRecords.{recordAt}
 use Rattle.rings.specs.Ring.{countOf}
 use Rattle.reports.specs.Report.{short}
 use Rattle.replies.specs.Areas.{Areas}
 use Rattle.routing.specs.Which.{none}
-use Rattle.queueing.specs.Head.{Queues, both, headOf, moved, freed}
-use Rattle.queueing.specs.Leave.{State, droppedOne}
+use Rattle.heads.specs.Head.{Queues, both, headOf, moved, freed}
+use Rattle.retiring.specs.Leave.{State, droppedOne}
 use Rattle.making.specs.declared.Draft.{Draft}
 use Rattle.making.specs.Make.{Held, pathOf, hasPath, made, heldIn, withHeld, withMade}
-use Rattle.moving.specs.Move.{apart, pointOf, goesTo, movedOne, releasedOne, released}
+use Rattle.moving.specs.Move.{apart, pointOf, goesTo, movedOne}
+use Rattle.releasing.specs.Release.{releasedOne, released}
 use Rattle.ending.specs.declared.Cut.{Cut}
 use Rattle.ending.specs.End.{outOf, linksOut, outOfService}
 use Rattle.promises.proofs.Records.{record-rewritten}

@@ -11,11 +11,12 @@ use borrow.Author.Tests.{ltb-true, not-false}
 use Rattle.plan.specs.declared.data.Plan.{Plan}
 use Rattle.plan.specs.Find.{placeOf}
 use Rattle.plan.proofs.Split.{both-false}
-use Rattle.rows.specs.Rows.{flagAt, recordAt}
+use Rattle.flags.specs.Flags.{flagAt}
+use Rattle.linkrecords.specs.LinkRecords.{recordAt}
 use Rattle.wire.specs.declared.header.Label.{Label}
 use Rattle.replies.specs.Areas.{Areas, Outcome, withMarks}
 use Rattle.routing.specs.Which.{none}
-use Rattle.queueing.specs.Head.{both}
+use Rattle.heads.specs.Head.{both}
 use Rattle.numbers.specs.Taken.{withTaken}
 use Rattle.making.specs.Make.{withMade, makesReply}
 use Rattle.moving.specs.Move.{apart}
@@ -23,8 +24,9 @@ use Rattle.current.specs.Flags.{t6}
 use Rattle.discrimination.specs.declared.Came.{Came}
 use Rattle.discrimination.specs.declared.Came.the-variants.{Malformed, Foreign, Delivered, Managed, Passed}
 use Rattle.discrimination.specs.Discrimination.{fromHost}
-use Rattle.passing.specs.Pass.{linkOf, unreachable, ringBy, ringOf, placeReply, queued, prohibitedTo, tells, marksTold, notReached, passed}
-use Rattle.passing.specs.Host.{refuses, offered, fromHostBy, sent}
+use Rattle.passage.specs.Passage.{linkOf, unreachable, ringBy, ringOf, placeReply, queued, prohibitedTo, tells}
+use Rattle.passing.specs.Pass.{marksTold, notReached, passed}
+use Rattle.offering.specs.Host.{refuses, offered, fromHostBy, sent}
 use Rattle.promises.proofs.Outcomes.{RegularIn, by-test, if-done}
 use Rattle.promises.proofs.KeepsMaking.{made-regular}
 use Rattle.ledger.proofs.Behind.{user-joined}

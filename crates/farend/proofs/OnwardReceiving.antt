@@ -8,8 +8,8 @@ use native.Mathlib.Omega.{arith}
 use lib.Dec.{eqb}
 use lib.ListN.{length}
 use Rattle.plan.specs.declared.data.Plan.{Plan}
-use Rattle.rows.specs.declared.link.LinkRecord.{LinkRecord}
-use Rattle.rows.specs.Rows.{recordAt}
+use Rattle.linkrecords.specs.declared.LinkRecord.{LinkRecord}
+use Rattle.linkrecords.specs.LinkRecords.{recordAt}
 use Rattle.rings.specs.Ring.{countOf}
 use Rattle.network.specs.declared.management.Message.{Message}
 use Rattle.network.specs.declared.management.Message.the-variants.{COO, COA, CBD, CBA, ECO, ECA, TFP, TFA, RST}
@@ -21,11 +21,13 @@ use Rattle.lookup.specs.Lookup.{linkNamed}
 use Rattle.numbers.specs.Taken.{withTaken, takenOnly}
 use Rattle.making.specs.Make.{withMade}
 use Rattle.ending.specs.End.{outOfService}
-use Rattle.waiting.specs.Wait.{waits, stopped, answers, answered}
-use Rattle.rerouting.specs.Mark.{counts, transferred}
-use Rattle.orders.specs.declared.step.Step.{Step}
+use Rattle.opening.specs.Opening.{waits, stopped}
+use Rattle.waiting.specs.Wait.{answers, answered, answeredBy}
+use Rattle.marking.specs.Mark.{counts}
+use Rattle.rerouting.specs.Transfer.{transferred}
+use Rattle.steps.specs.declared.Step.{Step}
 use Rattle.orders.specs.Carry.{answerReply, withAnswer, endedBy, carried}
-use Rattle.managing.specs.Managed.{answeredBy, asked, managed}
+use Rattle.managing.specs.Managed.{asked, managed}
 use Rattle.discrimination.specs.declared.Came.{Came}
 use Rattle.discrimination.specs.declared.Came.the-variants.{Malformed, Foreign, Delivered, Managed, Passed}
 use Rattle.discrimination.specs.Discrimination.{fromLink}

@@ -8,8 +8,8 @@ use lib.ListN.{drop}
 use lib.Seq.{drop-nil}
 use Rattle.round.proofs.Lists.{map-drop}
 use Rattle.store.specs.Sound.{Sound}
-use Rattle.queueing.specs.Head.{Queues, freed, repeat}
-use Rattle.queueing.specs.Leave.{retired}
+use Rattle.heads.specs.Head.{Queues, freed, repeat}
+use Rattle.retiring.specs.Leave.{retired}
 use Rattle.ledger.specs.Held.{arrivalOf, numbers}
 use Rattle.leaving.specs.Going.{slotsOf}
 use Rattle.leaving.proofs.Queues.{freed-none, freed-from, freed-other, freed-sound}

@@ -16,20 +16,21 @@ use Rattle.plan.specs.Sound as Plan
 use Rattle.plan.proofs.Split.{alike, both-false}
 use Rattle.counting.specs.Counting.{distance, onward}
 use Rattle.counting.proofs.Laws.{onward-distance}
-use Rattle.rows.specs.declared.link.LinkRecord.{LinkRecord}
-use Rattle.rows.specs.Rows.{recordAt}
+use Rattle.linkrecords.specs.declared.LinkRecord.{LinkRecord}
+use Rattle.linkrecords.specs.LinkRecords.{recordAt}
 use Rattle.rings.specs.Ring.{countOf, queue}
 use Rattle.rings.proofs.Queues.{queue-length}
 use Rattle.replies.specs.Reply.{ifDone}
 use Rattle.replies.specs.Areas.{Areas}
 use Rattle.lookup.specs.Lookup.{isLink}
-use Rattle.queueing.specs.Head.{both}
+use Rattle.heads.specs.Head.{both}
 use Rattle.numbers.specs.Numbers.{oneMore, upTo, leftSent}
-use Rattle.sending.specs.Acknowledge as Acknowledge
+use Rattle.acknowledging.specs.Acknowledge as Acknowledge
 use Rattle.sending.specs.Send as Send
-use Rattle.sending.proofs.Window.{one-more-sent, retired-and-left}
-use Rattle.changeback.specs.declared.pairs.Sources.{Sources}
-use Rattle.changeback.specs.Service.{comesAs}
+use Rattle.sending.proofs.Window.{one-more-sent}
+use Rattle.acknowledging.proofs.Window.{retired-and-left}
+use Rattle.pairs.specs.declared.Sources.{Sources}
+use Rattle.inservice.specs.InService.{comesAs}
 use Rattle.promises.proofs.Records.{withNumbers, Rewritten}
 use Rattle.promises.proofs.Outcomes.{RegularIn, rows-passed, link-within}
 use Rattle.ledger.specs.Held.{arrivalOf, numbers}

@@ -12,17 +12,18 @@ use borrow.Table.Steps.{cases}
 use Rattle.plan.specs.declared.data.Plan.{Plan}
 use Rattle.plan.specs.Sound as Plan
 use Rattle.plan.proofs.Split.{alike}
-use Rattle.rows.specs.declared.link.LinkRecord.{LinkRecord}
-use Rattle.rows.specs.Rows.{recordAt, withAcknowledged, withSent}
+use Rattle.linkrecords.specs.declared.LinkRecord.{LinkRecord}
+use Rattle.linkrecords.specs.LinkRecords.{recordAt, withAcknowledged, withSent}
 use Rattle.replies.specs.declared.Answer.{Answer}
 use Rattle.replies.specs.Reply.{plain}
 use Rattle.replies.specs.Areas.{Areas, areas, Outcome, refused, withLinks}
-use Rattle.queueing.specs.Head.{both}
+use Rattle.heads.specs.Head.{both}
 use Rattle.numbers.specs.Numbers.{oneMore, leftSent}
-use Rattle.changeback.specs.Service.{comesAs, sourcesIn, linksIn, intoService}
+use Rattle.inservice.specs.InService.{comesAs, sourcesIn, linksIn}
+use Rattle.changeback.specs.Service.{intoService}
 use Rattle.changeback.specs.Service as Service
 use Rattle.sending.specs.Send as Send
-use Rattle.sending.specs.Acknowledge as Acknowledge
+use Rattle.acknowledging.specs.Acknowledge as Acknowledge
 use Rattle.node.specs.declared.call.Event.{Event}
 use Rattle.node.specs.declared.call.Event.the-variants.{IntoService, Failure, Send, Acknowledgement, Received, FromHost, T1, T2, T3, T4, T6, T8, T10, RouteList}
 use Rattle.node.specs.Memory.{Memory, Result}

@@ -9,10 +9,10 @@ use Rattle.counting.specs.Counting.{onward}
 use Rattle.card.specs.declared.Record.{Record}
 use Rattle.card.specs.Card.{begun, sentOne, accepts, acknowledgedTo}
 use Rattle.plan.specs.declared.data.Plan.{Plan}
-use Rattle.rows.specs.Rows.{recordAt}
+use Rattle.linkrecords.specs.LinkRecords.{recordAt}
 use Rattle.replies.specs.Areas.{Areas}
 use Rattle.numbers.specs.Numbers.{nextNumber}
-use Rattle.sending.specs.Acknowledge.{bInRange}
+use Rattle.acknowledging.specs.Acknowledge.{bInRange}
 use Rattle.node.specs.declared.call.Event.{Event}
 use Rattle.node.specs.declared.call.Event.the-variants.{IntoService, Failure, Send, Acknowledgement, Received, FromHost, T1, T2, T3, T4, T6, T8, T10, RouteList}
 use Rattle.node.specs.Memory.{Memory}

@@ -1,17 +1,18 @@
 // The expiry of each timer, as C calls it.
-use changeover::timer::expire;
+use expiry::expire_t8;
+use overdue::expire;
 use replies::Answer;
 use rerouting::timer::expire_t6;
-use rerouting::timer::expire_t8;
 use rerouting::timer::expire_t10;
 use waiting::expire_wait;
 ghost use mathlib.Core.Path.{_≡_};
 ghost use mathlib.Core.List.{[]};
 ghost use Rattle.planwords.specs.Words.{planOf};
 ghost use Rattle.replies.specs.Areas.{areas, Leaves};
-ghost use Rattle.changeover.specs.Timer as Changeover;
+ghost use Rattle.overdue.specs.Expire as Changeover;
 ghost use Rattle.waiting.specs.Wait as Wait;
 ghost use Rattle.rerouting.specs.Timer as Rerouting;
+ghost use Rattle.expiry.specs.Expiry as Expiry;
 
 // T1 or T2 of a link expires.
 #[no_mangle]
@@ -69,8 +70,8 @@ pub extern "C" fn transfer_point_expire_t8_lent(
     marks: &mut [u32; 512],
     x: u16,
 ) -> u8
-    ensures { λ r. ⌜ r ≡ Rerouting.replyOf (planOf plan) (now (marks .entry)) x 5 ⌝ }
-    ensures { λ r. ⌜ now (marks .exit) ≡ Rerouting.expiredT8 (planOf plan) (now (marks .entry)) x ⌝ }
+    ensures { λ r. ⌜ r ≡ Expiry.replyOf (planOf plan) (now (marks .entry)) x 5 ⌝ }
+    ensures { λ r. ⌜ now (marks .exit) ≡ Expiry.expiredT8 (planOf plan) (now (marks .entry)) x ⌝ }
 {
     expire_t8(plan, marks, x)
 }

@@ -1,6 +1,6 @@
 // A link comes into service or fails, as C calls it.
-use changeback::service::into_service;
-use changeover::fail::fail;
+use changeback::into_service;
+use changeover::fail;
 use replies::Answer;
 ghost use Rattle.planwords.specs.Words.{planOf};
 ghost use Rattle.replies.specs.Areas.{areas, Leaves};

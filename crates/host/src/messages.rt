@@ -1,19 +1,19 @@
 // Messages sent, acknowledged, received and handed over, as C calls it.
-use passing::host::send_host;
+use acknowledging::acknowledge;
+use offering::send_host;
 use receiving::receive;
 use replies::Answer;
-use sending::acknowledge::acknowledge;
-use sending::send::send;
+use sending::send;
 ghost use mathlib.Core.Path.{_≡_};
 ghost use mathlib.Core.List.{[]};
 ghost use lib.ListN.{length};
 ghost use Rattle.planwords.specs.Words.{planOf};
 ghost use Rattle.sending.specs.Send as Send;
-ghost use Rattle.queueing.specs.Head.{both};
-ghost use Rattle.sending.specs.Acknowledge as Acknowledge;
+ghost use Rattle.heads.specs.Head.{both};
+ghost use Rattle.acknowledging.specs.Acknowledge as Acknowledge;
 ghost use Rattle.replies.specs.Areas.{areas, Leaves};
 ghost use Rattle.receiving.specs.Receive as Receive;
-ghost use Rattle.passing.specs.Host as Host;
+ghost use Rattle.offering.specs.Host as Host;
 
 // Level 2 asks for a link's next message.
 #[no_mangle]

@@ -1,5 +1,4 @@
-// The kinds of a record's lines: the word that a line begins with, and what stands behind it.
-use text::part::same;
+// The kinds of a record's lines, and what stands behind the word of each.
 ghost use mathlib.Core.Path.{_≡_};
 ghost use Rattle.kinds.specs.Kind as Kind·;
 
@@ -30,61 +29,6 @@ pub enum Form {
     TwoNumbersAndMessage,
     // No line begins with the word.
     Unknown,
-}
-
-// The kind that a text names.
-pub fn read_kind(text: &[u8]) -> Kind
-    ensures { λ r. ⌜ r ≡ Kind·.kindOf (now (text .entry)) ⌝ }
-{
-    if same(text, b"service") {
-        return Kind::Service;
-    }
-    if same(text, b"failure") {
-        return Kind::Failure;
-    }
-    if same(text, b"send") {
-        return Kind::Send;
-    }
-    if same(text, b"ack") {
-        return Kind::Acknowledged;
-    }
-    if same(text, b"received") {
-        return Kind::Received;
-    }
-    if same(text, b"host") {
-        return Kind::Host;
-    }
-    if same(text, b"routes") {
-        return Kind::Routes;
-    }
-    timer_kind(text)
-}
-
-fn timer_kind(text: &[u8]) -> Kind
-    ensures { λ r. ⌜ r ≡ Kind·.timerOf (now (text .entry)) ⌝ }
-{
-    if same(text, b"t1") {
-        return Kind::T1;
-    }
-    if same(text, b"t2") {
-        return Kind::T2;
-    }
-    if same(text, b"t3") {
-        return Kind::T3;
-    }
-    if same(text, b"t4") {
-        return Kind::T4;
-    }
-    if same(text, b"t6") {
-        return Kind::T6;
-    }
-    if same(text, b"t8") {
-        return Kind::T8;
-    }
-    if same(text, b"t10") {
-        return Kind::T10;
-    }
-    Kind::Other
 }
 
 // What a line of a kind has behind its word.

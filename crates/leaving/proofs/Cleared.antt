@@ -8,11 +8,11 @@ use lib.ListN.{length, drop, length-append, length-map, length-drop, take-append
 use lib.Seq.{drop-drop}
 use borrow.Table.Elements.{map-app}
 use Rattle.plan.specs.declared.data.Plan.{Plan}
-use Rattle.rows.specs.Rows.{recordAt}
+use Rattle.linkrecords.specs.LinkRecords.{recordAt}
 use Rattle.rings.specs.Ring.{countOf}
 use Rattle.store.specs.Sound.{Sound}
 use Rattle.reports.specs.Report.{room}
-use Rattle.queueing.specs.Leave.{State, retired, dropped}
+use Rattle.retiring.specs.Leave.{State, retired, dropped}
 use Rattle.moving.specs.Move.{goesTo, movedAll}
 use Rattle.ending.specs.declared.Cut.{Cut}
 use Rattle.ending.specs.End.{cleared}

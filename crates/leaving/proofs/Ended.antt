@@ -11,13 +11,14 @@ use borrow.Author.Tests.{lt-ltb}
 use Rattle.plan.specs.declared.data.Plan.{Plan}
 use Rattle.plan.specs.Find.{given}
 use Rattle.plan.proofs.Split.{split}
-use Rattle.rows.specs.declared.link.LinkRecord.{LinkRecord}
-use Rattle.rows.specs.Rows.{recordAt, word, withRecord}
+use Rattle.linkrecords.specs.declared.LinkRecord.{LinkRecord}
+use Rattle.flags.specs.Flags.{word}
+use Rattle.linkrecords.specs.LinkRecords.{recordAt, withRecord}
 use Rattle.rings.specs.Ring.{countOf}
 use Rattle.store.specs.Sound.{Sound}
 use Rattle.reports.specs.Report.{room}
 use Rattle.access.specs.Change.{isAccessible}
-use Rattle.queueing.specs.Leave.{State}
+use Rattle.retiring.specs.Leave.{State}
 use Rattle.ending.specs.declared.Cut.{Cut}
 use Rattle.ending.specs.End.{outOf, linksOut, cleared, ended}
 use Rattle.leaving.specs.Going.{Ended}

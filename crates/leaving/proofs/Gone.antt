@@ -7,8 +7,8 @@ use native.Mathlib.Nat.{add-zero, le-refl}
 use native.Mathlib.Omega.{arith}
 use lib.ListN.{length, take, drop}
 use Rattle.reports.specs.Report.{Log, room, told}
-use Rattle.queueing.specs.Head.{Queues, freed}
-use Rattle.queueing.specs.Leave.{State, retired, droppedOne, dropped}
+use Rattle.heads.specs.Head.{Queues, freed}
+use Rattle.retiring.specs.Leave.{State, retired, droppedOne, dropped}
 use Rattle.ledger.specs.Held.{arrivalOf}
 use Rattle.ledger.specs.Reported.{Report, report, reportsOf}
 use Rattle.leaving.specs.Going.{slotsOf, dropsFor}

@@ -10,11 +10,11 @@ use lib.Seq.{take-all}
 use borrow.Author.Tests.{lt-ltb, le-ltb}
 use Rattle.plan.specs.declared.data.Plan.{Plan}
 use Rattle.plan.proofs.Split.{split, alike}
-use Rattle.rows.specs.Rows.{recordAt}
+use Rattle.linkrecords.specs.LinkRecords.{recordAt}
 use Rattle.reports.specs.Report.{room}
 use Rattle.routing.specs.Which.{none}
-use Rattle.queueing.specs.Head.{moved, repeat}
-use Rattle.queueing.specs.Leave.{State, droppedOne}
+use Rattle.heads.specs.Head.{moved, repeat}
+use Rattle.retiring.specs.Leave.{State, droppedOne}
 use Rattle.moving.specs.Move.{pointOf, slsOf, needOf, goesTo, movedOne, movedAll}
 use Rattle.rings.specs.Ring.{countOf}
 use Rattle.rings.proofs.Queues.{queue-length}

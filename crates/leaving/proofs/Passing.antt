@@ -9,8 +9,8 @@ use native.Mathlib.Omega.{arith}
 use lib.ListN.{length, take, drop, length-append}
 use Rattle.store.specs.Sound.{Sound}
 use Rattle.reports.specs.Report.{room}
-use Rattle.queueing.specs.Head.{repeat}
-use Rattle.queueing.specs.Leave.{State}
+use Rattle.heads.specs.Head.{repeat}
+use Rattle.retiring.specs.Leave.{State}
 use Rattle.ledger.specs.Reported.{Report, reportsOf}
 use Rattle.leaving.specs.Going.{slotsOf}
 

@@ -15,7 +15,7 @@ use Rattle.rings.specs.Move.{spansMoved, ringsMoved}
 use Rattle.store.specs.Sound.{Sound}
 use Rattle.rings.proofs.Queues.{queue-length, found-count, taken-head, taken-queue, taken-other, put-other}
 use Rattle.store.proofs.Moves.{moved-queue}
-use Rattle.queueing.specs.Head.{Queues, headOf, moved, freeRing, freed}
+use Rattle.heads.specs.Head.{Queues, headOf, moved, freeRing, freed}
 use Rattle.promises.proofs.Counts.{move-sound}
 use Rattle.leaving.specs.Going.{slotsOf}
 

@@ -11,8 +11,8 @@ use Rattle.plan.specs.Find.{given}
 use Rattle.rings.specs.Ring.{queue}
 use Rattle.reports.specs.Report.{Log, pause, resume}
 use Rattle.access.specs.Change.{isAccessible, codeOf}
-use Rattle.queueing.specs.Head.{Queues}
-use Rattle.queueing.specs.Leave.{State}
+use Rattle.heads.specs.Head.{Queues}
+use Rattle.retiring.specs.Leave.{State}
 use Rattle.moving.specs.Move.{goesTo}
 use Rattle.ending.specs.declared.Cut.{Cut}
 use Rattle.ending.specs.End.{linksOut}

@@ -15,7 +15,7 @@ use Rattle.store.specs.Sound.{bit, Sound}
 use Rattle.rings.proofs.Spans.{taken-length}
 use Rattle.rings.proofs.Queues.{found-some, found-count}
 use Rattle.store.proofs.Moves.{taken-room}
-use Rattle.queueing.specs.Head.{Queues, both, headOf, moved, freeRing, freed}
+use Rattle.heads.specs.Head.{Queues, both, headOf, moved, freeRing, freed}
 use Rattle.ledger.specs.Held.{arrivalOf, heldOf}
 use Rattle.ledger.proofs.Rings.{queue-taken, queue-put, free-put}
 

@@ -12,14 +12,14 @@ use borrow.Author.Tests.{eqb-true}
 use borrow.Table.Elements.{map-app}
 use borrow.Table.Steps.{cases}
 use Rattle.plan.proofs.Split.{alike}
-use Rattle.rows.specs.Rows.{withSlot}
-use Rattle.rows.specs.declared.slot.Slot.{Slot}
+use Rattle.slotrows.specs.SlotRows.{withSlot}
+use Rattle.slotrows.specs.declared.Slot.{Slot}
 use Rattle.rings.specs.Ring.{countOf, queue, spansTaken, spansPut, ringsPut}
 use Rattle.rings.proofs.Queues.{queue-length, taken-other, put-queue, put-other}
 use Rattle.slots.specs.Message.{fits, userRows, managementRows}
 use Rattle.slots.specs.Message as Message
 use Rattle.store.specs.Sound.{Sound}
-use Rattle.queueing.specs.Head.{Queues, both, headOf, moved}
+use Rattle.heads.specs.Head.{Queues, both, headOf, moved}
 use Rattle.queueing.specs.Queue.{nextOf, userReply, userQueues, userRow, managementReply, managementQueues, managementRow}
 use Rattle.ledger.specs.Held.{arrivalOf, numbers}
 use Rattle.ledger.proofs.Balance.{moved-some, head-long, head-room}

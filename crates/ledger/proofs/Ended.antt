@@ -14,8 +14,8 @@ use Rattle.store.specs.Sound.{tally, Sound, Kinds}
 use Rattle.reports.specs.Report.{room, short}
 use Rattle.replies.specs.Areas.{Areas}
 use Rattle.access.specs.Change.{isAccessible}
-use Rattle.queueing.specs.Head.{both}
-use Rattle.queueing.specs.Leave.{State, state, retired, dropped}
+use Rattle.heads.specs.Head.{both}
+use Rattle.retiring.specs.Leave.{State, state, retired, dropped}
 use Rattle.ending.specs.declared.Cut.{Cut}
 use Rattle.ending.specs.End.{linksOut, cleared, ended, outOfService}
 use Rattle.promises.proofs.Leaving.{left-retired}

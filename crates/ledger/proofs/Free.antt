@@ -14,7 +14,7 @@ use Rattle.rings.proofs.Queues.{queue-length}
 use Rattle.store.specs.Sound.{bit, sum, tally, Sound}
 use Rattle.store.proofs.Sums.{sum-same}
 use Rattle.store.proofs.Moves.{taken-below, taken-apart}
-use Rattle.queueing.specs.Head.{Queues, both, headOf, moved}
+use Rattle.heads.specs.Head.{Queues, both, headOf, moved}
 use Rattle.queueing.specs.Queue.{nextOf, counted}
 use Rattle.ledger.specs.Held.{arrivalOf, heldOf, givenOf}
 use Rattle.ledger.proofs.Rings.{counts, within, held-slots, free-taken, queue-put}

@@ -8,8 +8,8 @@ use lib.Dec.{ltb, eqb}
 use borrow.Table.Steps.{cases}
 use Rattle.store.specs.Sound.{Sound, Kinds, Suits}
 use Rattle.store.proofs.KindsApart.{kinds-move}
-use Rattle.queueing.specs.Head.{Queues, headOf, moved, freeRing, freed, repeat}
-use Rattle.queueing.specs.Leave.{retired}
+use Rattle.heads.specs.Head.{Queues, headOf, moved, freeRing, freed, repeat}
+use Rattle.retiring.specs.Leave.{retired}
 use Rattle.queueing.specs.Queue.{userReply, userQueues, managementReply, managementQueues}
 use Rattle.promises.proofs.Leaving.{left-freed}
 use Rattle.ledger.proofs.Balance.{free-there}

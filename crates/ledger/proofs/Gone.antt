@@ -12,8 +12,8 @@ use Rattle.rings.specs.Ring.{countOf, queue, spansTaken}
 use Rattle.rings.proofs.Queues.{taken-queue, put-other}
 use Rattle.store.specs.Sound.{tally, Sound}
 use Rattle.reports.specs.Report.{room, told}
-use Rattle.queueing.specs.Head.{Queues, headOf, freeRing, freed, repeat}
-use Rattle.queueing.specs.Leave.{State, retired, droppedOne, dropped}
+use Rattle.heads.specs.Head.{Queues, headOf, freeRing, freed, repeat}
+use Rattle.retiring.specs.Leave.{State, retired, droppedOne, dropped}
 use Rattle.promises.proofs.Leaving.{repeated, left-freed}
 use Rattle.ledger.specs.Held.{arrivalOf, numbers, heldOf}
 use Rattle.ledger.specs.Reported.{reportsOf, dropsOf}

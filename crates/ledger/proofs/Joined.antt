@@ -10,8 +10,8 @@ use lib.Dec.{eqb}
 use lib.ListN.{length}
 use borrow.Author.Tests.{lt-ltb, le-leb, eqb-true, eqb-false}
 use borrow.Table.Steps.{cases}
-use Rattle.rows.specs.Rows.{withSlot}
-use Rattle.rows.specs.declared.slot.Slot.{Slot}
+use Rattle.slotrows.specs.SlotRows.{withSlot}
+use Rattle.slotrows.specs.declared.Slot.{Slot}
 use Rattle.rows.proofs.Laws.{row-other}
 use Rattle.rings.specs.Ring.{countOf, takeOf}
 use Rattle.slots.specs.Message.{fits, userRows, managementRows}
@@ -20,7 +20,7 @@ use Rattle.slots.proofs.ReadBack.{user-read, management-read}
 use Rattle.store.specs.Sound.{Sound, Kinds}
 use Rattle.store.proofs.KindsApart.{taken-user}
 use Rattle.replies.proofs.Rows.{none-applies}
-use Rattle.queueing.specs.Head.{Queues, headOf, moved}
+use Rattle.heads.specs.Head.{Queues, headOf, moved}
 use Rattle.queueing.specs.Queue.{nextOf, counted, noUserPlace, noManagementPlace, userReply, userQueues, userRow, userArrivals, managementReply, managementQueues, managementRow, managementArrivals}
 use Rattle.ledger.specs.Held.{arrivalOf, heldOf, givenOf}
 use Rattle.ledger.proofs.Balance.{head-found}

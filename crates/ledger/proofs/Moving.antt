@@ -15,9 +15,10 @@ use Rattle.rings.specs.Ring.{countOf, spansTaken}
 use Rattle.rings.proofs.Spans.{taken-count, put-count}
 use Rattle.store.specs.Sound.{Sound}
 use Rattle.routing.specs.Which.{none}
-use Rattle.queueing.specs.Head.{Queues, headOf, moved}
-use Rattle.queueing.specs.Leave.{State}
-use Rattle.moving.specs.Move.{pointOf, goesTo, movedOne, movedAll, apart, releasedOne, released}
+use Rattle.heads.specs.Head.{Queues, headOf, moved}
+use Rattle.retiring.specs.Leave.{State}
+use Rattle.moving.specs.Move.{pointOf, goesTo, movedOne, movedAll, apart}
+use Rattle.releasing.specs.Release.{releasedOne, released}
 use Rattle.promises.proofs.Counts.{move-sound, move-from}
 use Rattle.ledger.proofs.Balance.{moved-some, moved-none, head-some, head-long, head-room, held-move}
 use Rattle.ledger.proofs.FreeKinds.{kinds-queue}

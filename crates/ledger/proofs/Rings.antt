@@ -12,7 +12,7 @@ use Rattle.store.specs.Sound.{bit, sum, tally}
 use Rattle.rings.proofs.Queues.{taken-other, put-other}
 use Rattle.store.proofs.Sums.{sum-same, sum-change}
 use Rattle.store.proofs.Held.{taken-tally, put-tally}
-use Rattle.queueing.specs.Head.{both}
+use Rattle.heads.specs.Head.{both}
 use Rattle.ledger.specs.Held.{arrivalOf, numbers, heldOf}
 
 -- numbers that pass a test are slots whose numbers do

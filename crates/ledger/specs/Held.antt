@@ -2,10 +2,10 @@
 use Prim.Native.Nat.{ℕ}
 use mathlib.Core.Bool.{Bool}
 use mathlib.Core.List.{List, map}
-use Rattle.rows.specs.Rows.{slotAt}
+use Rattle.slotrows.specs.SlotRows.{slotAt}
 use Rattle.rings.specs.Ring.{queue}
 use Rattle.store.specs.Sound.{bit, sum, tally}
-use Rattle.queueing.specs.Head.{Queues}
+use Rattle.heads.specs.Head.{Queues}
 
 -- the arrival number of the message in a slot
 abbrev pub arrivalOf : List ℕ → ℕ → ℕ

@@ -8,8 +8,8 @@ use Rattle.replies.specs.declared.Answer.{Answer}
 use Rattle.numerals.specs.Decimal.{decimalOf}
 use Rattle.text.specs.Part.{tab, lf}
 use Rattle.plan.specs.declared.data.Plan.{Plan}
-use Rattle.routing.specs.declared.state.Need.{Need}
-use Rattle.routing.specs.State.{serves, isMarked}
+use Rattle.serving.specs.declared.Need.{Need}
+use Rattle.serving.specs.State.{serves, isMarked}
 use Rattle.plan.specs.Data.{destinationAt}
 use Rattle.routing.specs.Which.{none, chosen}
 

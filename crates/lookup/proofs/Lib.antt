@@ -1,2 +1,3 @@
+pub mod FirstRows
 pub mod Named
 pub mod Walks

@@ -8,9 +8,9 @@ use lib.Dec.{eqb, ltb}
 use borrow.Author.Tests.{lt-ltb, le-ltb}
 use borrow.Table.Steps.{cases}
 use Rattle.plan.specs.declared.data.Plan.{Plan}
-use Rattle.routing.specs.declared.state.Need.{Need}
-use Rattle.access.specs.Way.{forManagement, wayOf}
-use Rattle.queueing.specs.Head.{Queues, both}
+use Rattle.serving.specs.declared.Need.{Need}
+use Rattle.ways.specs.Way.{forManagement, wayOf}
+use Rattle.heads.specs.Head.{Queues, both}
 use Rattle.queueing.specs.Queue.{managementReply, managementQueues, managementRow, managementArrivals}
 use Rattle.making.specs.declared.Draft.{Draft}
 use Rattle.making.specs.declared.Made.{Made}

@@ -7,8 +7,8 @@ use lib.Dec.{eqb, ltb}
 use Rattle.plan.specs.declared.data.Plan.{Plan}
 use Rattle.replies.specs.Areas.{Areas, areas}
 use Rattle.routing.specs.Which.{none}
-use Rattle.access.specs.Way.{forManagement, wayOf}
-use Rattle.queueing.specs.Head.{Queues, both}
+use Rattle.ways.specs.Way.{forManagement, wayOf}
+use Rattle.heads.specs.Head.{Queues, both}
 use Rattle.queueing.specs.Queue.{managementReply, managementQueues, managementRow, managementArrivals}
 use Rattle.making.specs.declared.Draft.{Draft}
 use Rattle.making.specs.declared.Made.{Made}

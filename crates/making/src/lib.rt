@@ -1,7 +1,7 @@
 // A management message of the node's own: made and queued where there is a path for it.
-use access::way::for_management;
-use access::way::way;
-use queueing::queue::queue_management;
+use queueing::queue_management;
+use ways::for_management;
+use ways::way;
 ghost use Rattle.planwords.specs.Words.{planOf};
 ghost use mathlib.Core.Path.{_≡_};
 ghost use Rattle.making.specs.Make as Make;

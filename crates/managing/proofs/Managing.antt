@@ -11,7 +11,7 @@ use Rattle.network.specs.declared.management.Message.{Message}
 use Rattle.network.specs.declared.management.Message.the-variants.{COO, COA, CBD, CBA, ECO, ECA, TFP, TFA, RST}
 use Rattle.replies.specs.declared.Answer.{Answer}
 use Rattle.replies.specs.Areas.{Areas, Outcome, Leaves}
-use Rattle.orders.specs.declared.step.Step.{Step}
+use Rattle.steps.specs.declared.Step.{Step}
 use Rattle.orders.specs.Carry.{carried}
 use Rattle.managing.specs.Managed.{asked, carriedOut, managed}
 

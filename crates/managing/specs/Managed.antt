@@ -1,27 +1,18 @@
 -- A management message for us: what each of the nine does.
 use Prim.Native.Nat.{ℕ}
-use mathlib.Core.Bool.{true, false, cond}
+use mathlib.Core.Bool.{true, false}
 use mathlib.Core.List.{List}
 use Rattle.plan.specs.declared.data.Plan.{Plan}
 use Rattle.network.specs.declared.management.Message.{Message}
 use Rattle.network.specs.declared.management.Message.the-variants.{COO, COA, CBD, CBA, ECO, ECA, TFP, TFA, RST}
-use Rattle.replies.specs.Reply.{done}
-use Rattle.replies.specs.Areas.{Areas, Outcome, outcome, withLinks}
-use Rattle.numbers.specs.Numbers.{taken}
-use Rattle.orders.specs.declared.step.Step.{Step}
-use Rattle.orders.specs.Step.{nothing}
-use Rattle.orders.specs.Ask.{askCOO, askCOA, askECO, askECA, askCBD, askRST}
-use Rattle.numbers.specs.Taken.{takenOnly}
+use Rattle.replies.specs.Areas.{Areas, Outcome}
+use Rattle.steps.specs.declared.Step.{Step}
+use Rattle.steps.specs.Step.{nothing}
+use Rattle.asking.specs.Ask.{askCOO, askCOA, askECO, askECA}
+use Rattle.requests.specs.Request.{askCBD, askRST}
 use Rattle.orders.specs.Carry.{carried}
-use Rattle.waiting.specs.Wait.{answers, answered}
-use Rattle.rerouting.specs.Mark.{transferred}
-
--- CBA: "only while its CBD is unanswered, else 11"
-unfoldable pub answeredBy : Plan → ℕ → ℕ → ℕ → ℕ → ℕ → Areas → Outcome
-answeredBy plan arriving fsn point slc code a =
-    cond (answers plan (a .links) point slc code)
-    (outcome (done 0) (withLinks a (answered plan (taken (a .links) arriving fsn) point slc)))
-    (takenOnly arriving fsn 11 a)
+use Rattle.waiting.specs.Wait.{answeredBy}
+use Rattle.rerouting.specs.Transfer.{transferred}
 
 -- what a message from a point, with an SLC, asks that is answered or ends a changeover
 unfoldable pub asked : Plan → List ℕ → List ℕ → ℕ → ℕ → ℕ → ℕ → Message → Step

@@ -1,48 +1,22 @@
 // A management message for us: what each of the nine does.
+use asking::ask_coa;
+use asking::ask_coo;
+use asking::ask_eca;
+use asking::ask_eco;
 use discrimination::Order;
 use network::management::Message;
-use numbers::take_message;
-use orders::ask::ask_cbd;
-use orders::ask::ask_coa;
-use orders::ask::ask_coo;
-use orders::ask::ask_eca;
-use orders::ask::ask_eco;
-use orders::ask::ask_rst;
-use orders::carry::carry_out;
-use orders::step::Step;
-use orders::step::nothing;
+use orders::carry_out;
 use replies::Answer;
-use replies::done;
-use replies::plain;
-use rerouting::mark::transfer;
-use waiting::answer_wait;
-use waiting::answers;
+use requests::ask_cbd;
+use requests::ask_rst;
+use rerouting::transfer::transfer;
+use steps::Step;
+use steps::nothing;
+use waiting::answer_by;
 ghost use Rattle.planwords.specs.Words.{planOf};
 ghost use mathlib.Core.Path.{_≡_};
-ghost use mathlib.Core.List.{[]};
 ghost use Rattle.replies.specs.Areas.{areas, Leaves};
 ghost use Rattle.managing.specs.Managed as Managed;
-
-// A CBA.
-fn answer_by(
-    plan: &[u16; 1024],
-    links: &mut [u32; 256],
-    arriving: u8,
-    fsn: u8,
-    point: u16,
-    slc: u8,
-    code: u8,
-) -> Answer
-    ensures { λ r. ⌜ Leaves (Managed.answeredBy (planOf plan) arriving fsn point slc code (areas (now (links .entry)) [] [] [] [] [] [])) r (areas (now (links .exit)) [] [] [] [] [] []) ⌝ }
-{
-    let counts = answers(plan, links, point, slc, code);
-    take_message(links, arriving, fsn);
-    if !counts {
-        return plain(11);
-    }
-    answer_wait(plan, links, point, slc);
-    done(0)
-}
 
 // What a message asks that is answered or ends a changeover.
 fn ask(

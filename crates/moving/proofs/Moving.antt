@@ -1,21 +1,21 @@
--- What a move, or a release, of one message leaves, from what the code finds there.
+-- What a move of one message leaves, from what the code finds there.
 -- Assumes nothing.
 use mathlib.Core.Path.{_≡_, sym, ap, _∙_}
 use mathlib.Core.Bool.{true, false}
 use mathlib.Core.List.{List}
 use Prim.Native.Nat.{ℕ, _%_, _≤_, _<_}
-use borrow.Author.Tests.{lt-ltb, le-ltb, eq-eqb, ne-eqb}
+use borrow.Author.Tests.{lt-ltb, le-ltb}
 use Rattle.plan.specs.declared.data.Plan.{Plan}
-use Rattle.rows.specs.Rows.{slotAt}
-use Rattle.rows.specs.declared.slot.Slot.{Slot}
+use Rattle.slotrows.specs.SlotRows.{slotAt}
+use Rattle.slotrows.specs.declared.Slot.{Slot}
 use Rattle.rings.specs.declared.ring.Taken.{Taken}
 use Rattle.rings.specs.Ring.{atOf, takeOf}
-use Rattle.routing.specs.declared.state.Need.{Need}
+use Rattle.serving.specs.declared.Need.{Need}
 use Rattle.routing.specs.Which.{none}
-use Rattle.access.specs.Way.{forUsers, forManagement, wayOf}
-use Rattle.queueing.specs.Head.{Queues, headOf, moved}
-use Rattle.queueing.specs.Leave.{State, droppedOne}
-use Rattle.moving.specs.Move.{pointOf, needOf, goesTo, movedOne, apart, releasedOne}
+use Rattle.ways.specs.Way.{forUsers, forManagement, wayOf}
+use Rattle.heads.specs.Head.{Queues, headOf, moved}
+use Rattle.retiring.specs.Leave.{State, droppedOne}
+use Rattle.moving.specs.Move.{needOf, goesTo, movedOne}
 
 -- slots below 192 need what user messages need, the others what management messages do
 pub users-need : (slot : ℕ) → slot < 192 → forUsers ≡ needOf slot
@@ -25,7 +25,7 @@ pub managements-need : (slot : ℕ) → 192 ≤ slot → forManagement none ≡ 
 managements-need slot h = simp (le-ltb slot 192 h)
 
 -- what the code found at the first place of a ring is its head
-is-head : (queues : Queues) (ring : ℕ) (head : Taken) → head ≡ atOf (queues .spans) (queues .rings) ring 0
+pub is-head : (queues : Queues) (ring : ℕ) (head : Taken) → head ≡ atOf (queues .spans) (queues .rings) ring 0
     → head ≡ headOf queues ring
 unfolding headOf takeOf
 is-head queues ring head looked = looked
@@ -77,29 +77,3 @@ module _ (plan : Plan) (links marks rows : List ℕ) where
       pub head-dropped : 32 ≤ link → droppedOne rows ring 1 now ≡ movedOne plan links marks rows ring now
       unfolding movedOne
       head-dropped h = simp (found, going, le-ltb link 32 h)
-
-  -- those held apart were looked at, and the row of the first was loaded
-  module _
-      (now : State)
-      (point : ℕ)
-      (head : Taken)
-      (looked : head ≡ atOf (now .queues .spans) (now .queues .rings) apart 0)
-      (known : Slot)
-      (loaded : known ≡ slotAt rows (head .slot)) where
-    goal-point : pointOf rows (headOf (now .queues) apart .slot) ≡ known .point % 16384
-    goal-point =
-        sym
-        (ap (λ (s : Slot). s .point % 16384) loaded
-        ∙ ap (λ (t : Taken). pointOf rows (t .slot)) (is-head (now .queues) apart head looked))
-
-    -- one for the point moves
-    pub this-released : known .point % 16384 ≡ point
-        → movedOne plan links marks rows apart now ≡ releasedOne plan links marks rows point now
-    unfolding releasedOne
-    this-released same = simp (eq-eqb _ point (goal-point ∙ same))
-
-    -- another goes behind the others
-    pub other-kept : (known .point % 16384 ≡ point → ⊥)
-        → movedTo now apart apart ≡ releasedOne plan links marks rows point now
-    unfolding releasedOne
-    other-kept differs = simp (ne-eqb _ point (λ same. differs (sym goal-point ∙ same)))

@@ -3,15 +3,15 @@
 use Prim.Native.Nat.{ℕ, _%_}
 use mathlib.Core.Bool.{cond}
 use mathlib.Core.List.{List}
-use lib.Dec.{ltb, eqb}
+use lib.Dec.{ltb}
 use Rattle.plan.specs.declared.data.Plan.{Plan}
-use Rattle.rows.specs.Rows.{slotAt}
+use Rattle.slotrows.specs.SlotRows.{slotAt}
 use Rattle.rings.specs.Ring.{countOf}
-use Rattle.routing.specs.declared.state.Need.{Need}
+use Rattle.serving.specs.declared.Need.{Need}
 use Rattle.routing.specs.Which.{none}
-use Rattle.access.specs.Way.{forUsers, forManagement, wayOf}
-use Rattle.queueing.specs.Head.{headOf, moved, repeat}
-use Rattle.queueing.specs.Leave.{State, droppedOne}
+use Rattle.ways.specs.Way.{forUsers, forManagement, wayOf}
+use Rattle.heads.specs.Head.{headOf, moved, repeat}
+use Rattle.retiring.specs.Leave.{State, droppedOne}
 
 -- the point that the message in a slot goes to
 abbrev pub pointOf : List ℕ → ℕ → ℕ
@@ -48,15 +48,3 @@ movedAll plan links marks rows ring now =
 -- the ring of the messages held apart
 abbrev pub apart : ℕ
 apart = 32
-
--- "held apart until it ends, then move": the first of those held apart moves if it is for the point, else it goes behind the others
-unfoldable pub releasedOne : Plan → List ℕ → List ℕ → List ℕ → ℕ → State → State
-releasedOne plan links marks rows point now =
-    cond (eqb (pointOf rows (headOf (now .queues) apart .slot)) point)
-    (movedOne plan links marks rows apart now)
-    (record { queues = moved (now .queues) apart apart; log = now .log })
-
--- each is looked at once, so that the others keep their order
-unfoldable pub released : Plan → List ℕ → List ℕ → List ℕ → ℕ → State → State
-released plan links marks rows point now =
-    repeat (releasedOne plan links marks rows point) (countOf (now .queues .spans) apart) now

@@ -1,15 +1,15 @@
 // To move: each message of a queue goes, in order and with its arrival number, to the link that the rule gives it now.
-use access::way::for_management;
-use access::way::for_users;
-use access::way::way;
-use queueing::head::move_head;
-use queueing::leave::drop_head;
+use heads::move_head;
+use retiring::drop_head;
 use rings::ring::at;
 use rings::ring::count;
-use rows::slot::load_slot;
+use slotrows::load_slot;
+use ways::for_management;
+use ways::for_users;
+use ways::way;
 ghost use Rattle.planwords.specs.Words.{planOf};
 ghost use mathlib.Core.Path.{_≡_};
-ghost use Rattle.queueing.specs.Leave.{state};
+ghost use Rattle.retiring.specs.Leave.{state};
 ghost use Rattle.moving.specs.Move as Move;
 
 // The link that the message in a slot goes to, 32 where it has none.
@@ -33,7 +33,7 @@ fn goes_to(
 }
 
 // The first message of a ring moves, or is dropped with reason 1; how many reports there are now.
-fn move_one(
+pub fn move_one(
     plan: &[u16; 1024],
     links: &[u32; 256],
     marks: &[u32; 512],
@@ -90,68 +90,6 @@ pub fn move_all(
             rings,
             rows,
             ring,
-            reports,
-            reported,
-        );
-    }
-    reported
-}
-
-// The first message held apart moves if it is for the point, and else goes to the end of those held apart.
-fn release_one(
-    plan: &[u16; 1024],
-    links: &[u32; 256],
-    marks: &[u32; 512],
-    spans: &mut [u16; 70],
-    rings: &mut [u8; 8960],
-    rows: &[u64; 2048],
-    point: u16,
-    reports: &mut [u64],
-    told: usize,
-) -> usize
-    ensures { λ r. ⌜ r ≡ Move.releasedOne (planOf plan) (now (links .entry)) (now (marks .entry)) (now (rows .entry)) point (state (now (spans .entry)) (now (rings .entry)) (now (reports .entry)) told) .log .count ⌝ }
-    ensures { λ r. ⌜ now (reports .exit) ≡ Move.releasedOne (planOf plan) (now (links .entry)) (now (marks .entry)) (now (rows .entry)) point (state (now (spans .entry)) (now (rings .entry)) (now (reports .entry)) told) .log .area ⌝ }
-    ensures { λ r. ⌜ now (spans .exit) ≡ Move.releasedOne (planOf plan) (now (links .entry)) (now (marks .entry)) (now (rows .entry)) point (state (now (spans .entry)) (now (rings .entry)) (now (reports .entry)) told) .queues .spans ⌝ }
-    ensures { λ r. ⌜ now (rings .exit) ≡ Move.releasedOne (planOf plan) (now (links .entry)) (now (marks .entry)) (now (rows .entry)) point (state (now (spans .entry)) (now (rings .entry)) (now (reports .entry)) told) .queues .rings ⌝ }
-{
-    let head = at(spans, rings, 32, 0);
-    let known = load_slot(rows, head.slot);
-    if known.point % 16384 == point as u64 {
-        return move_one(plan, links, marks, spans, rings, rows, 32, reports, told);
-    }
-    move_head(spans, rings, 32, 32);
-    told
-}
-
-// The messages held apart for a point move, and the others keep their order; how many reports there are now.
-pub fn release(
-    plan: &[u16; 1024],
-    links: &[u32; 256],
-    marks: &[u32; 512],
-    spans: &mut [u16; 70],
-    rings: &mut [u8; 8960],
-    rows: &[u64; 2048],
-    point: u16,
-    reports: &mut [u64],
-    told: usize,
-) -> usize
-    ensures { λ r. ⌜ r ≡ Move.released (planOf plan) (now (links .entry)) (now (marks .entry)) (now (rows .entry)) point (state (now (spans .entry)) (now (rings .entry)) (now (reports .entry)) told) .log .count ⌝ }
-    ensures { λ r. ⌜ now (reports .exit) ≡ Move.released (planOf plan) (now (links .entry)) (now (marks .entry)) (now (rows .entry)) point (state (now (spans .entry)) (now (rings .entry)) (now (reports .entry)) told) .log .area ⌝ }
-    ensures { λ r. ⌜ now (spans .exit) ≡ Move.released (planOf plan) (now (links .entry)) (now (marks .entry)) (now (rows .entry)) point (state (now (spans .entry)) (now (rings .entry)) (now (reports .entry)) told) .queues .spans ⌝ }
-    ensures { λ r. ⌜ now (rings .exit) ≡ Move.released (planOf plan) (now (links .entry)) (now (marks .entry)) (now (rows .entry)) point (state (now (spans .entry)) (now (rings .entry)) (now (reports .entry)) told) .queues .rings ⌝ }
-{
-    let mut left = count(spans, 32);
-    let mut reported = told;
-    while 0 < left {
-        left -= 1;
-        reported = release_one(
-            plan,
-            links,
-            marks,
-            spans,
-            rings,
-            rows,
-            point,
             reports,
             reported,
         );

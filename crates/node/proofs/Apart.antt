@@ -8,7 +8,7 @@ use lib.Dec.{eqb}
 use lib.ListN.{length}
 use Rattle.plan.specs.declared.data.Plan.{Plan}
 use Rattle.wire.specs.declared.header.Label.{Label}
-use Rattle.rows.specs.Rows.{recordAt}
+use Rattle.linkrecords.specs.LinkRecords.{recordAt}
 use Rattle.replies.specs.declared.Answer.{Answer}
 use Rattle.replies.specs.Reply.{done}
 use Rattle.replies.specs.Areas.{Areas, areas, Outcome, outcome, refused, judged, Leaves}
@@ -16,11 +16,13 @@ use Rattle.discrimination.specs.declared.Came.{Came}
 use Rattle.discrimination.specs.declared.Came.the-variants.{Malformed, Foreign, Delivered, Managed, Passed}
 use Rattle.discrimination.specs.Discrimination.{fromHost}
 use Rattle.ending.specs.End.{cutUnknown, outOfService}
-use Rattle.changeover.specs.Timer as Changeover
+use Rattle.failure.specs.Overdue as Overdue
+use Rattle.overdue.specs.Expire as Changeover
 use Rattle.making.specs.Make.{withMade, makesReply}
 use Rattle.rerouting.specs.Timer as Rerouting
-use Rattle.passing.specs.Pass.{linkOf, placeReply, queued, octetsQueued}
-use Rattle.passing.specs.Host.{refuses, offered, fromHostBy, sent, octetsOffered, octetsBy, octetsSent}
+use Rattle.expiry.specs.Expiry as Expiry
+use Rattle.passage.specs.Passage.{linkOf, placeReply, queued, octetsQueued}
+use Rattle.offering.specs.Host.{refuses, offered, fromHostBy, sent, octetsOffered, octetsBy, octetsSent}
 
 -- areas with other arrival numbers, or with another report area
 abbrev pub arrivalsIn : List ℕ → Areas → Areas
@@ -89,7 +91,7 @@ module _ (plan : Plan) (a : Areas) where
       → through arrivalsBack (Changeover.expired plan noArrivals link timer) ≡ Changeover.expired plan a link timer
   unfolding Changeover.expired outOfService
   changeover-apart link timer =
-      let reply = Changeover.replyOf plan (a .links) link timer (a .reports) in
+      let reply = Overdue.replyOf plan (a .links) link timer (a .reports) in
       either arrivalsBack (eqb reply 0) (outOfService plan noArrivals link (cutUnknown (recordAt (a .links) link)))
       (refused reply noArrivals)
 
@@ -114,8 +116,8 @@ module _ (plan : Plan) (a : Areas) where
   t10-apart : (x set : ℕ) → through reportsBack (Rerouting.expiredT10 plan noReports x set) ≡ Rerouting.expiredT10 plan a x set
   unfolding Rerouting.expiredT10
   t10-apart x set =
-      let reply = Rerouting.replyT10 plan (a .marks) x set in
-      let test = Rerouting.testOf plan x set in
+      let reply = Expiry.replyT10 plan (a .marks) x set in
+      let test = Expiry.testOf plan x set in
       let lacking = makesReply plan test a in
       let made = outcome (done 0) (withMade plan test noReports) in
       either reportsBack (eqb reply 0) (judged lacking made noReports) (refused reply noReports)

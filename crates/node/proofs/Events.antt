@@ -8,11 +8,11 @@ use Rattle.replies.specs.declared.Answer.{Answer}
 use Rattle.replies.specs.Reply.{plain}
 use Rattle.replies.specs.Areas.{areas, withLinks, withMarks}
 use Rattle.listing.specs.RouteList.{listAnswer, listReply, listed, laid}
-use Rattle.queueing.specs.Head.{both}
+use Rattle.heads.specs.Head.{both}
 use Rattle.sending.specs.Send as Send
-use Rattle.sending.specs.Acknowledge as Acknowledge
+use Rattle.acknowledging.specs.Acknowledge as Acknowledge
 use Rattle.waiting.specs.Wait as Wait
-use Rattle.rerouting.specs.Timer as Rerouting
+use Rattle.expiry.specs.Expiry as Expiry
 use Rattle.current.specs.Flags.{t8}
 use Rattle.node.specs.Memory.{Memory, memory, Gives}
 use Rattle.node.specs.Call.{sends, acknowledges, waitEnds, t8Ends, lists}
@@ -71,7 +71,7 @@ module _ (plan : Plan) (m : Memory) where
 
   -- T8 expires
   pub gives-t8 : (x reply : ℕ) (marks′ : List ℕ)
-      → (reply ≡ Rerouting.replyOf plan marks x t8) × (marks′ ≡ Rerouting.expiredT8 plan marks x)
+      → (reply ≡ Expiry.replyOf plan marks x t8) × (marks′ ≡ Expiry.expiredT8 plan marks x)
       → (r : Answer) → r ≡ plain reply
       → Gives (t8Ends plan x m) r (memory (withMarks (m .areas) marks′) (m .octets) (m .out))
   unfolding t8Ends

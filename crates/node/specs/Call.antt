@@ -8,17 +8,18 @@ use Rattle.replies.specs.declared.Answer.{Answer}
 use Rattle.replies.specs.Reply.{plain}
 use Rattle.replies.specs.Areas.{Areas, areas, withLinks, withMarks}
 use Rattle.listing.specs.RouteList.{listAnswer, listReply, listed, laid}
-use Rattle.queueing.specs.Head.{both}
+use Rattle.heads.specs.Head.{both}
 use Rattle.sending.specs.Send as Send
-use Rattle.sending.specs.Acknowledge as Acknowledge
+use Rattle.acknowledging.specs.Acknowledge as Acknowledge
 use Rattle.changeover.specs.Fail.{failed}
-use Rattle.changeover.specs.Timer as Changeover
+use Rattle.overdue.specs.Expire as Changeover
 use Rattle.changeback.specs.Service.{intoService}
 use Rattle.waiting.specs.Wait as Wait
 use Rattle.rerouting.specs.Timer as Rerouting
+use Rattle.expiry.specs.Expiry as Expiry
 use Rattle.current.specs.Flags.{t8}
 use Rattle.receiving.specs.Receive.{received, octetsReceived}
-use Rattle.passing.specs.Host.{sent, octetsSent}
+use Rattle.offering.specs.Host.{sent, octetsSent}
 use Rattle.node.specs.declared.call.Event.{Event}
 use Rattle.node.specs.declared.call.Event.the-variants.{IntoService, Failure, Send, Acknowledgement, Received, FromHost, T1, T2, T3, T4, T6, T8, T10, RouteList}
 use Rattle.node.specs.Memory.{Memory, Result, result, ofAreas}
@@ -55,8 +56,8 @@ waitEnds plan link timer m =
 unfoldable pub t8Ends : Plan → ℕ → Memory → Result
 t8Ends plan x m =
     let a = m .areas in
-    result (plain (Rerouting.replyOf plan (a .marks) x t8))
-    (withMarks a (Rerouting.expiredT8 plan (a .marks) x))
+    result (plain (Expiry.replyOf plan (a .marks) x t8))
+    (withMarks a (Expiry.expiredT8 plan (a .marks) x))
     (m .octets)
     (m .out)
 

@@ -1,17 +1,17 @@
 // The single entry: every event of the node.
-use changeback::service::into_service;
-use changeover::fail::fail;
-use changeover::timer::expire;
+use acknowledging::acknowledge;
+use changeback::into_service;
+use changeover::fail;
+use expiry::expire_t8;
 use listing::list::route_list;
-use passing::host::send_host;
+use offering::send_host;
+use overdue::expire;
 use receiving::receive;
 use replies::Answer;
 use replies::plain;
 use rerouting::timer::expire_t6;
-use rerouting::timer::expire_t8;
 use rerouting::timer::expire_t10;
-use sending::acknowledge::acknowledge;
-use sending::send::send;
+use sending::send;
 use waiting::expire_wait;
 ghost use Rattle.planwords.specs.Words.{planOf};
 ghost use Rattle.replies.specs.Areas.{areas};

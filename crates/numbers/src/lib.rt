@@ -2,8 +2,8 @@
 use counting::distance;
 use counting::next;
 use counting::onward;
-use rows::link::LinkRecord;
-use rows::link::store_received;
+use linkrecords::LinkRecord;
+use linkrecords::store_received;
 ghost use mathlib.Core.Path.{_≡_};
 ghost use Rattle.numbers.specs.Numbers as Numbers;
 

@@ -21,7 +21,7 @@ use Rattle.making.specs.Make.{Held, held, heldIn, withHeld, withMade, makesRepl
 use Rattle.making.proofs.Making.{MakeLeaves, refused-kept}
 use Rattle.ending.specs.End.{outOfService}
 use Rattle.ending.proofs.Ended.{EndLeaves, parts-whole}
-use Rattle.orders.specs.declared.step.Step.{Step}
+use Rattle.steps.specs.declared.Step.{Step}
 use Rattle.orders.specs.Carry.{answerReply, withAnswer, endedBy, carried}
 
 module _ (plan : Plan) (step : Step) (a : Areas) where

@@ -9,7 +9,7 @@ use Rattle.replies.specs.Reply.{done}
 use Rattle.replies.specs.Areas.{Areas, Outcome, outcome, judged}
 use Rattle.making.specs.Make.{withMade, makesReply}
 use Rattle.ending.specs.End.{outOfService}
-use Rattle.orders.specs.declared.step.Step.{Step}
+use Rattle.steps.specs.declared.Step.{Step}
 
 -- the reply to the making of the answer: 8 or 10 where it finds no place or number
 unfoldable pub answerReply : Plan → Step → Areas → ℕ

@@ -1,3 +1,2 @@
 pub mod Once
 pub mod Pages
-pub mod Reports

@@ -1,4 +1,14 @@
-// What is written piece after piece into a lent area: numbers, the lines of reports and those of a refusal.
-pub mod number;
-pub mod refusal;
-pub mod reported;
+// What is written piece after piece into a lent area. What most pieces of a line are: a number, and the octets behind it.
+use numerals::decimal::put_decimal;
+use text::put::put;
+ghost use mathlib.Core.Path.{_≡_};
+ghost use mathlib.Core.List.{[], _∷_};
+ghost use Rattle.numerals.specs.Decimal.{decimalOf};
+ghost use Rattle.pages.specs.Page.{page, puts};
+
+pub fn put_number(out: &mut [u8], at: usize, number: u64, behind: &[u8]) -> usize
+    ensures { λ r. ⌜ page (now (out .exit)) r ≡ puts (page (now (out .entry)) at) (decimalOf number ∷ now (behind .entry) ∷ []) ⌝ }
+{
+    let at = put_decimal(out, at, number);
+    put(out, at, behind)
+}

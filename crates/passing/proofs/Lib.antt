@@ -1,4 +1,2 @@
-pub mod Flagged
 pub mod Unreached
-pub mod Placing
-pub mod Offering
+pub mod Passing

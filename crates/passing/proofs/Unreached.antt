@@ -16,7 +16,8 @@ use Rattle.making.specs.declared.Draft.{Draft}
 use Rattle.making.specs.declared.Made.{Made}
 use Rattle.making.specs.Make.{Held, held, heldIn, withHeld, isMade, made, withMade, makesReply}
 use Rattle.making.proofs.Making.{MakeLeaves, refused-kept}
-use Rattle.passing.specs.Pass.{prohibitedTo, tells, withT8, marksTold, notReached}
+use Rattle.passage.specs.Passage.{prohibitedTo, tells, withT8}
+use Rattle.passing.specs.Pass.{marksTold, notReached}
 use Rattle.replies.proofs.Judging.{is-refused, is-done}
 
 module _ (plan : Plan) (a : Areas) (arriving fsn x : ℕ) where

@@ -8,7 +8,7 @@ use native.Mathlib.Omega.{arith}
 use lib.Dec.{eqb, ltb, leb}
 use borrow.Author.Tests.{eq-eqb, ne-eqb, eqb-true, eqb-false, le-leb, leb-true, not-true}
 use borrow.Table.Steps.{cases}
-use Rattle.rows.specs.declared.link.LinkRecord.{LinkRecord}
+use Rattle.linkrecords.specs.declared.LinkRecord.{LinkRecord}
 use Rattle.promises.specs.Regular.{noTimer, regularOut, regularWaiting, regularOpen, regularChanging, regularLink}
 
 -- exactly one of T3 and T4 runs, T4 while a code is unanswered

@@ -8,13 +8,13 @@ use native.Mathlib.Omega.{arith}
 use borrow.Table.Steps.{cases}
 use Rattle.plan.specs.declared.data.Plan.{Plan}
 use Rattle.plan.specs.Find.{placeOf, isFound}
-use Rattle.rows.specs.Rows.{recordAt}
-use Rattle.routing.specs.declared.state.Need.{Need}
-use Rattle.routing.specs.State.{serves, isMarked}
+use Rattle.linkrecords.specs.LinkRecords.{recordAt}
+use Rattle.serving.specs.declared.Need.{Need}
+use Rattle.serving.specs.State.{serves, isMarked}
 use Rattle.routing.specs.Which.{none}
 use Rattle.routing.proofs.Loss.{lost-state}
 use Rattle.routing.proofs.Used.{chosen-is}
-use Rattle.access.specs.Way.{linkFor, wayOf}
+use Rattle.ways.specs.Way.{linkFor, wayOf}
 use Rattle.promises.proofs.Records.{state-read}
 
 module _ (plan : Plan) (links marks : List ℕ) (need : Need) where

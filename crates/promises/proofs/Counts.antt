@@ -15,7 +15,7 @@ use Rattle.store.specs.Sound.{Sound}
 use Rattle.rings.proofs.Spans.{taken-count, taken-count-other, taken-length, put-count, put-count-other}
 use Rattle.rings.proofs.Queues.{found-some, found-none}
 use Rattle.store.proofs.Moves.{taken-room, sound-move}
-use Rattle.queueing.specs.Head.{Queues, moved}
+use Rattle.heads.specs.Head.{Queues, moved}
 
 module _
     (queues : Queues)

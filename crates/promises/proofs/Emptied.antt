@@ -9,13 +9,14 @@ use lib.Dec.{ltb, eqb}
 use borrow.Author.Tests.{ltb-true}
 use borrow.Table.Steps.{cases}
 use Rattle.plan.specs.declared.data.Plan.{Plan}
-use Rattle.rows.specs.Rows.{recordAt}
+use Rattle.linkrecords.specs.LinkRecords.{recordAt}
 use Rattle.rings.specs.Ring.{countOf}
 use Rattle.rings.proofs.Queues.{found-none}
 use Rattle.routing.specs.Which.{none}
-use Rattle.queueing.specs.Head.{headOf}
-use Rattle.queueing.specs.Leave.{State}
-use Rattle.moving.specs.Move.{pointOf, slsOf, needOf, goesTo, movedOne, movedAll, apart, releasedOne, released}
+use Rattle.heads.specs.Head.{headOf}
+use Rattle.retiring.specs.Leave.{State}
+use Rattle.moving.specs.Move.{pointOf, slsOf, needOf, goesTo, movedOne, movedAll, apart}
+use Rattle.releasing.specs.Release.{releasedOne, released}
 use Rattle.promises.proofs.Carrying.{way-carries}
 use Rattle.promises.proofs.Growing.{Goes, goes-free, Kept, kept-none, kept-on, kept-move}
 use Rattle.promises.proofs.Leaving.{repeated, SoundAt, Leaves, left-many, left-move, left-dropped-one}

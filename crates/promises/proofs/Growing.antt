@@ -6,10 +6,10 @@ use mathlib.Core.List.{List}
 use Prim.Native.Nat.{ℕ, _≤_, _<_}
 use native.Mathlib.Nat.{le-refl}
 use native.Mathlib.Omega.{arith}
-use Rattle.rows.specs.Rows.{recordAt}
+use Rattle.linkrecords.specs.LinkRecords.{recordAt}
 use Rattle.rings.specs.Ring.{countOf}
 use Rattle.store.specs.Sound.{Sound}
-use Rattle.queueing.specs.Head.{Queues, moved}
+use Rattle.heads.specs.Head.{Queues, moved}
 use Rattle.promises.proofs.Counts.{move-sound, move-no-less, move-other}
 
 -- no link but one has fewer messages than before, and every out link but that one has as many

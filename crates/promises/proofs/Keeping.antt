@@ -9,10 +9,10 @@ use native.Mathlib.Omega.{arith}
 use lib.Dec.{lit<}
 use lib.ListN.{length}
 use Rattle.plan.proofs.Split.{split, alike}
-use Rattle.rows.specs.declared.link.LinkRecord.{LinkRecord}
-use Rattle.rows.specs.Rows.{recordAt}
+use Rattle.linkrecords.specs.declared.LinkRecord.{LinkRecord}
+use Rattle.linkrecords.specs.LinkRecords.{recordAt}
 use Rattle.rings.specs.Ring.{countOf}
-use Rattle.queueing.specs.Head.{Queues, both}
+use Rattle.heads.specs.Head.{Queues, both}
 use Rattle.promises.specs.Regular.{regularLink, Regular}
 use Rattle.promises.proofs.Records.{kept, Rewritten}
 use Rattle.promises.proofs.ByState.{grown}

@@ -8,16 +8,18 @@ use native.Mathlib.Omega.{arith}
 use lib.Dec.{eqb, leb}
 use borrow.Author.Tests.{eqb-true, not-false}
 use Rattle.plan.specs.declared.data.Plan.{Plan}
-use Rattle.rows.specs.declared.link.LinkRecord.{LinkRecord}
-use Rattle.rows.specs.Rows.{recordAt}
+use Rattle.linkrecords.specs.declared.LinkRecord.{LinkRecord}
+use Rattle.linkrecords.specs.LinkRecords.{recordAt}
 use Rattle.rings.specs.Ring.{countOf}
 use Rattle.replies.specs.Areas.{Areas, Outcome}
 use Rattle.reports.specs.Report.{short}
 use Rattle.lookup.specs.Lookup.{isLink}
 use Rattle.making.specs.Make.{isMade, withMade}
 use Rattle.ending.specs.End.{cutNone, cutUnknown, outOfService}
-use Rattle.changeover.specs.Fail.{stateAt, replyOf, orderOf, changing, timerOf, openFailed, failed}
-use Rattle.changeover.specs.Timer as Timer
+use Rattle.failure.specs.Failure.{stateAt, replyOf, orderOf, changing}
+use Rattle.changeover.specs.Fail.{timerOf, openFailed, failed}
+use Rattle.failure.specs.Overdue as Overdue
+use Rattle.overdue.specs.Expire as Timer
 use Rattle.promises.proofs.ByState.{open-is, is-changing, changes}
 use Rattle.promises.proofs.Records.{record-rewritten}
 use Rattle.promises.proofs.Keeping.{loaded-in-range, relinked}
@@ -79,10 +81,10 @@ module _ (a : Areas) (octets : List ℕ) (regular : RegularIn a octets) (plan : 
 
   -- T1, or T2, expires
   pub change-ends-regular : (timer : ℕ) → RegularIn (Timer.expired plan a link timer .after) octets
-  unfolding Timer.expired Timer.replyOf
+  unfolding Timer.expired Overdue.replyOf
   change-ends-regular timer =
       let other = not (eqb timer 1 || eqb timer 2) || short (a .reports) in
-      if-judged octets (Timer.replyOf plan (a .links) link timer (a .reports)) _ a regular
+      if-judged octets (Overdue.replyOf plan (a .links) link timer (a .reports)) _ a regular
       (λ done.
       let passed = rows-passed (leb 32 link || other) (not (isLink plan link)) (not (eqb (known .timer) timer)) [] done in
       out-regular a octets regular plan link (link-within link other (passed .0)) (cutUnknown known))

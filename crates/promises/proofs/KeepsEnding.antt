@@ -6,12 +6,12 @@ use mathlib.Core.List.{List}
 use Prim.Native.Nat.{ℕ, _<_}
 use native.Mathlib.Omega.{arith}
 use Rattle.plan.specs.declared.data.Plan.{Plan}
-use Rattle.rows.specs.declared.link.LinkRecord.{LinkRecord}
-use Rattle.rows.specs.Rows.{recordAt}
+use Rattle.linkrecords.specs.declared.LinkRecord.{LinkRecord}
+use Rattle.linkrecords.specs.LinkRecords.{recordAt}
 use Rattle.rings.specs.Ring.{countOf}
 use Rattle.replies.specs.Areas.{Areas}
-use Rattle.queueing.specs.Head.{Queues, both}
-use Rattle.queueing.specs.Leave.{State, state, retired, dropped}
+use Rattle.heads.specs.Head.{Queues, both}
+use Rattle.retiring.specs.Leave.{State, state, retired, dropped}
 use Rattle.moving.specs.Move.{movedAll}
 use Rattle.ending.specs.declared.Cut.{Cut}
 use Rattle.ending.specs.End.{outOf, linksOut, cleared, ended, outOfService}

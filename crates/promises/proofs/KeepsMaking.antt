@@ -7,8 +7,8 @@ use borrow.Author.Tests.{ltb-true}
 use Rattle.plan.specs.declared.data.Plan.{Plan}
 use Rattle.replies.specs.Areas.{Areas}
 use Rattle.routing.specs.Which.{none}
-use Rattle.access.specs.Way.{forManagement}
-use Rattle.queueing.specs.Head.{both}
+use Rattle.ways.specs.Way.{forManagement}
+use Rattle.heads.specs.Head.{both}
 use Rattle.queueing.specs.Queue.{managementQueues, managementRow, managementArrivals}
 use Rattle.making.specs.declared.Draft.{Draft}
 use Rattle.making.specs.Make.{Held, pathOf, hasPath, made, heldIn, withMade}

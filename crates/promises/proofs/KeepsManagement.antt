@@ -11,8 +11,8 @@ use lib.ListN.{length}
 use borrow.Author.Tests.{eqb-true, ltb-true}
 use Rattle.plan.specs.declared.data.Plan.{Plan}
 use Rattle.plan.proofs.Split.{alike}
-use Rattle.rows.specs.declared.link.LinkRecord.{LinkRecord}
-use Rattle.rows.specs.Rows.{recordAt}
+use Rattle.linkrecords.specs.declared.LinkRecord.{LinkRecord}
+use Rattle.linkrecords.specs.LinkRecords.{recordAt}
 use Rattle.network.specs.declared.management.Message.{Message}
 use Rattle.network.specs.declared.management.Message.the-variants.{COO, COA, CBD, CBA, ECO, ECA, TFP, TFA, RST}
 use Rattle.replies.specs.Reply.{done}
@@ -20,8 +20,8 @@ use Rattle.replies.specs.Areas.{Areas, Outcome, outcome, withLinks}
 use Rattle.lookup.specs.Lookup.{linkNamed}
 use Rattle.numbers.specs.Numbers.{taken}
 use Rattle.numbers.specs.Taken.{takenOnly}
-use Rattle.waiting.specs.Wait.{answers, answered}
-use Rattle.managing.specs.Managed.{answeredBy, asked, carriedOut, managed}
+use Rattle.waiting.specs.Wait.{answers, answered, answeredBy}
+use Rattle.managing.specs.Managed.{asked, carriedOut, managed}
 use Rattle.promises.proofs.Records.{received-rewritten}
 use Rattle.promises.proofs.Outcomes.{RegularIn, by-test}
 use Rattle.promises.proofs.KeepsNumbers.{taken-regular}

@@ -10,17 +10,18 @@ use lib.Dec.{eqb, ltb, leb, lit<}
 use borrow.Author.Tests.{eqb-true, leb-false, not-false}
 use Rattle.plan.specs.declared.data.Plan.{Plan}
 use Rattle.plan.proofs.Split.{both-false}
-use Rattle.rows.specs.declared.link.LinkRecord.{LinkRecord}
-use Rattle.rows.specs.Rows.{recordAt, withAcknowledged, withSent}
+use Rattle.linkrecords.specs.declared.LinkRecord.{LinkRecord}
+use Rattle.linkrecords.specs.LinkRecords.{recordAt, withAcknowledged, withSent}
 use Rattle.rings.specs.Ring.{countOf}
 use Rattle.lookup.specs.Lookup.{isLink}
-use Rattle.queueing.specs.Head.{Queues, both}
-use Rattle.queueing.specs.Leave.{retired}
+use Rattle.heads.specs.Head.{Queues, both}
+use Rattle.retiring.specs.Leave.{retired}
 use Rattle.numbers.specs.Numbers.{oneMore, upTo, leftSent, taken}
 use Rattle.sending.specs.Send as Send
-use Rattle.sending.specs.Acknowledge.{outOfRange, isOpen}
-use Rattle.sending.specs.Acknowledge as Acknowledge
-use Rattle.sending.proofs.Window.{one-more-sent, retired-and-left}
+use Rattle.acknowledging.specs.Acknowledge.{outOfRange, isOpen}
+use Rattle.acknowledging.specs.Acknowledge as Acknowledge
+use Rattle.sending.proofs.Window.{one-more-sent}
+use Rattle.acknowledging.proofs.Window.{retired-and-left}
 use Rattle.promises.specs.Regular.{regularLink, Regular}
 use Rattle.promises.proofs.Records.{withNumbers, received-rewritten, sent-rewritten, acknowledged-rewritten}
 use Rattle.promises.proofs.ByState.{open-is, is-open}

@@ -7,8 +7,8 @@ use Prim.Native.Nat.{ℕ, _<_}
 use lib.Dec.{eqb, ltb}
 use borrow.Author.Tests.{ltb-true}
 use Rattle.plan.specs.declared.data.Plan.{Plan}
-use Rattle.rows.specs.declared.link.LinkRecord.{LinkRecord}
-use Rattle.rows.specs.Rows.{recordAt}
+use Rattle.linkrecords.specs.declared.LinkRecord.{LinkRecord}
+use Rattle.linkrecords.specs.LinkRecords.{recordAt}
 use Rattle.replies.specs.Reply.{done}
 use Rattle.replies.specs.Areas.{Areas, Outcome, outcome}
 use Rattle.lookup.specs.Lookup.{linkNamed}
@@ -17,9 +17,10 @@ use Rattle.making.specs.declared.Draft.{Draft}
 use Rattle.making.specs.Make.{withMade}
 use Rattle.ending.specs.declared.Cut.{Cut}
 use Rattle.ending.specs.End.{cutAt, cutUnknown, cutNone, outOfService}
-use Rattle.orders.specs.declared.step.Step.{Step}
-use Rattle.orders.specs.Step.{nothing, answer, answerAndEnd, end}
-use Rattle.orders.specs.Ask.{draft, lastReceived, orderStep, emergencyOf, askCOO, askECO, ackStep, askCOA, askECA, askCBD, allows, askRST}
+use Rattle.steps.specs.declared.Step.{Step}
+use Rattle.steps.specs.Step.{nothing, answer, answerAndEnd, end, draft, orderStep, ackStep}
+use Rattle.asking.specs.Ask.{lastReceived, emergencyOf, askCOO, askECO, askCOA, askECA}
+use Rattle.requests.specs.Request.{askCBD, allows, askRST}
 use Rattle.orders.specs.Carry.{answerReply, withAnswer, endedBy, carried}
 use Rattle.promises.proofs.Outcomes.{RegularIn, by-test, if-judged, unmet}
 use Rattle.promises.proofs.KeepsNumbers.{taken-regular}

@@ -11,13 +11,13 @@ use borrow.Author.Tests.{ltb-true, not-false}
 use Rattle.plan.specs.declared.data.Plan.{Plan}
 use Rattle.plan.specs.Find.{placeOf}
 use Rattle.plan.proofs.Split.{both-false}
-use Rattle.rows.specs.Rows.{flagAt}
+use Rattle.flags.specs.Flags.{flagAt}
 use Rattle.wire.specs.declared.header.Label.{Label}
 use Rattle.replies.specs.Reply.{plain}
 use Rattle.replies.specs.Areas.{Areas, Outcome, outcome, judged, refused, withMarks}
 use Rattle.routing.specs.Which.{none}
-use Rattle.access.specs.Way.{forUsers}
-use Rattle.queueing.specs.Head.{both}
+use Rattle.ways.specs.Way.{forUsers}
+use Rattle.heads.specs.Head.{both}
 use Rattle.queueing.specs.Queue.{userQueues, userRow}
 use Rattle.numbers.specs.Taken.{withTaken}
 use Rattle.making.specs.Make.{withMade, makesReply}
@@ -26,8 +26,9 @@ use Rattle.current.specs.Flags.{t6}
 use Rattle.discrimination.specs.declared.Came.{Came}
 use Rattle.discrimination.specs.declared.Came.the-variants.{Malformed, Foreign, Delivered, Managed, Passed}
 use Rattle.discrimination.specs.Discrimination.{fromHost}
-use Rattle.passing.specs.Pass.{linkOf, unreachable, ringBy, ringOf, placeReply, queued, octetsQueued, prohibitedTo, tells, marksTold, notReached, passed, octetsPassed}
-use Rattle.passing.specs.Host.{refuses, offered, fromHostBy, sent, octetsOffered, octetsBy, octetsSent}
+use Rattle.passage.specs.Passage.{linkOf, unreachable, ringBy, ringOf, placeReply, queued, octetsQueued, prohibitedTo, tells}
+use Rattle.passing.specs.Pass.{marksTold, notReached, passed, octetsPassed}
+use Rattle.offering.specs.Host.{refuses, offered, fromHostBy, sent, octetsOffered, octetsBy, octetsSent}
 use Rattle.promises.proofs.Carrying.{way-carries}
 use Rattle.promises.proofs.Growing.{Goes, goes-free, Kept}
 use Rattle.promises.proofs.Queued.{user-kept}

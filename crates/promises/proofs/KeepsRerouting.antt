@@ -6,15 +6,18 @@ use Prim.Native.Nat.{ℕ}
 use native.Mathlib.Omega.{arith}
 use Rattle.plan.specs.declared.data.Plan.{Plan}
 use Rattle.plan.specs.Find.{placeOf}
-use Rattle.rows.specs.Rows.{withFlag}
+use Rattle.flags.specs.Flags.{withFlag}
 use Rattle.replies.specs.Areas.{Areas, Outcome}
-use Rattle.queueing.specs.Leave.{State, state}
+use Rattle.retiring.specs.Leave.{State, state}
 use Rattle.numbers.specs.Taken.{takenOnly}
 use Rattle.making.specs.Make.{makesReply}
-use Rattle.moving.specs.Move.{apart, released}
+use Rattle.moving.specs.Move.{apart}
+use Rattle.releasing.specs.Release.{released}
 use Rattle.current.specs.Flags.{t6}
-use Rattle.rerouting.specs.Mark.{counts, transferred}
-use Rattle.rerouting.specs.Timer.{replyT6, expiredT6, replyT10, testOf, expiredT10}
+use Rattle.marking.specs.Mark.{counts}
+use Rattle.rerouting.specs.Transfer.{transferred}
+use Rattle.rerouting.specs.Timer.{replyT6, expiredT6, expiredT10}
+use Rattle.expiry.specs.Expiry.{replyT10, testOf}
 use Rattle.promises.proofs.Emptied.{kept-released}
 use Rattle.promises.proofs.Keeping.{grew}
 use Rattle.promises.proofs.Outcomes.{RegularIn, by-test, if-judged}

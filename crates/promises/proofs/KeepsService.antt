@@ -12,20 +12,21 @@ use borrow.Table.Steps.{cases}
 use Rattle.plan.specs.declared.data.Plan.{Plan}
 use Rattle.plan.specs.Find.{given}
 use Rattle.plan.specs.Sound as Plan
-use Rattle.rows.specs.Rows.{recordAt, withRecord}
+use Rattle.linkrecords.specs.LinkRecords.{recordAt, withRecord}
 use Rattle.rings.specs.Ring.{countOf}
 use Rattle.replies.specs.Areas.{Areas}
 use Rattle.reports.specs.Report.{short}
 use Rattle.routing.specs.Which.{none}
-use Rattle.access.specs.Way.{forUsers, currentLink}
+use Rattle.ways.specs.Way.{forUsers, currentLink}
 use Rattle.lookup.specs.Lookup.{isLink, setOf, slcOf, adjacentOf}
-use Rattle.queueing.specs.Head.{both}
+use Rattle.heads.specs.Head.{both}
 use Rattle.queueing.specs.Queue.{managementQueues, managementRow, managementArrivals}
 use Rattle.making.specs.Make.{Held, heldIn}
-use Rattle.changeback.specs.declared.pairs.Sources.{Sources}
-use Rattle.changeback.specs.Pairs.{sources, cameFrom, withSource, sourcesFrom, sourcesOf}
-use Rattle.changeback.specs.Service.{inService, declares, comesAs, sourcesIn, linksIn, replyFirst, declareReply, replyOf, declared, intoService}
-use Rattle.changeback.proofs.OneSource.{never-both}
+use Rattle.pairs.specs.declared.Sources.{Sources}
+use Rattle.pairs.specs.Pairs.{sources, cameFrom, withSource, sourcesFrom, sourcesOf}
+use Rattle.inservice.specs.InService.{inService, declares, comesAs, sourcesIn, linksIn, replyFirst}
+use Rattle.changeback.specs.Service.{declareReply, replyOf, declared, intoService}
+use Rattle.inservice.proofs.OneSource.{never-both}
 use Rattle.promises.specs.Regular.{regularLink, Regular}
 use Rattle.promises.proofs.ByState.{is-waiting, is-open}
 use Rattle.promises.proofs.Carrying.{link-carries}

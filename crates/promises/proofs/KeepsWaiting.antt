@@ -9,12 +9,13 @@ use lib.Dec.{eqb, leb}
 use borrow.Author.Tests.{lt-ltb, eq-eqb, eqb-true, ltb-true, not-false}
 use borrow.Table.Steps.{cases}
 use Rattle.plan.specs.declared.data.Plan.{Plan}
-use Rattle.rows.specs.declared.link.LinkRecord.{LinkRecord}
-use Rattle.rows.specs.Rows.{recordAt, withRecord}
+use Rattle.linkrecords.specs.declared.LinkRecord.{LinkRecord}
+use Rattle.linkrecords.specs.LinkRecords.{recordAt, withRecord}
 use Rattle.rings.specs.Ring.{countOf}
 use Rattle.lookup.specs.Lookup.{isLink, linkNamed}
-use Rattle.waiting.specs.Wait.{waits, runs, replyOf, stopped, expired, answered}
-use Rattle.waiting.proofs.Opens.{opens-with-nothing-left}
+use Rattle.opening.specs.Opening.{waits, runs, stopped}
+use Rattle.waiting.specs.Wait.{replyOf, expired, answered}
+use Rattle.opening.proofs.Opens.{opens-with-nothing-left}
 use Rattle.promises.specs.Regular.{regularLink, Regular}
 use Rattle.promises.proofs.ByState.{Still, by-state, out-is, waiting-is, open-is, changing-is, is-open}
 use Rattle.promises.proofs.Records.{record-rewritten}

@@ -9,8 +9,8 @@ use borrow.Table.Steps.{cases}
 use Rattle.rings.specs.Ring.{countOf}
 use Rattle.store.specs.Sound.{Sound}
 use Rattle.rings.proofs.Queues.{found-none}
-use Rattle.queueing.specs.Head.{Queues, headOf, moved, freeRing, freed, repeat}
-use Rattle.queueing.specs.Leave.{State, retired, droppedOne, dropped}
+use Rattle.heads.specs.Head.{Queues, headOf, moved, freeRing, freed, repeat}
+use Rattle.retiring.specs.Leave.{State, retired, droppedOne, dropped}
 use Rattle.promises.proofs.Counts.{move-from}
 use Rattle.promises.proofs.Growing.{Goes, goes-free, Kept, kept-none, kept-on, kept-move}
 

@@ -16,7 +16,7 @@ use Rattle.slots.specs.Message as Message
 use Rattle.rings.proofs.Queues.{found-count}
 use Rattle.store.proofs.Written.{sound-written}
 use Rattle.replies.proofs.Rows.{none-applies}
-use Rattle.queueing.specs.Head.{Queues, headOf, moved}
+use Rattle.heads.specs.Head.{Queues, headOf, moved}
 use Rattle.queueing.specs.Queue.{nextOf, noUserPlace, noManagementPlace, userReply, userQueues, userRow, userOctets, managementReply, managementQueues, managementRow}
 use Rattle.promises.proofs.Counts.{move-to}
 use Rattle.promises.proofs.Growing.{Goes, Kept, kept-none, kept-move}

@@ -11,8 +11,8 @@ use lib.Seq.{length-sets}
 use borrow.Author.Tests.{lt-ltb}
 use Rattle.plan.specs.declared.data.Plan.{Plan}
 use Rattle.plan.specs.Sound as Plan
-use Rattle.rows.specs.declared.link.LinkRecord.{LinkRecord}
-use Rattle.rows.specs.Rows.{recordAt}
+use Rattle.linkrecords.specs.declared.LinkRecord.{LinkRecord}
+use Rattle.linkrecords.specs.LinkRecords.{recordAt}
 use Rattle.rows.proofs.Laws.{row-same}
 use Rattle.rings.specs.Run.{run}
 use Rattle.rings.specs.Ring.{countOf}

@@ -11,10 +11,12 @@ use lib.Dec.{eqb, ltb}
 use lib.ListN.{length, getD}
 use borrow.Author.Tests.{le-ltb}
 use borrow.Table.Steps.{cases}
-use Rattle.rows.specs.declared.link.LinkRecord.{LinkRecord}
-use Rattle.rows.specs.Rows.{wordAt, recordOf, recordAt, word, withRecord, withWord, withAcknowledged, withReceived, withSent}
+use Rattle.linkrecords.specs.declared.LinkRecord.{LinkRecord}
+use Rattle.flags.specs.Flags.{word}
+use Rattle.linkrecords.specs.LinkRecords.{recordOf, recordAt, withRecord, withAcknowledged, withReceived, withSent}
+use Rattle.rows.specs.Rows.{wordAt, withWord}
 use Rattle.rows.proofs.Laws.{row-same, row-other, row-length, word-same, word-other, word-length}
-use Rattle.routing.specs.State.{stateOf}
+use Rattle.serving.specs.State.{stateOf}
 
 -- what is left of a record in its words
 abbrev pub kept : LinkRecord → LinkRecord

@@ -1,5 +1,1 @@
-pub mod Heads
-pub mod Turns
-pub mod States
-pub mod Drops
 pub mod Queued

@@ -11,7 +11,7 @@ use Rattle.rings.specs.declared.ring.Taken.{Taken}
 use Rattle.rings.specs.Ring.{countOf}
 use Rattle.slots.specs.Message as Message
 use Rattle.replies.specs.Reply.{row, first}
-use Rattle.queueing.specs.Head.{both, headOf, moved}
+use Rattle.heads.specs.Head.{both, headOf, moved}
 use Rattle.queueing.specs.Queue.{nextOf, noNumber, counted, userReply, userQueues, userRow, userOctets, userArrivals, managementReply, managementQueues, managementRow, managementArrivals}
 
 -- the reply where a slot of a ring of free ones is asked for, with the table's row for it

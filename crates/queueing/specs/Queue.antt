@@ -9,7 +9,7 @@ use Rattle.rings.specs.Ring.{countOf}
 use Rattle.slots.specs.Message.{userRows, managementRows}
 use Rattle.slots.specs.Message as Message
 use Rattle.replies.specs.Reply.{row, first, ifDone}
-use Rattle.queueing.specs.Head.{Queues, headOf, moved}
+use Rattle.heads.specs.Head.{Queues, headOf, moved}
 
 -- the next arrival number
 abbrev pub nextOf : List ℕ → ℕ

@@ -13,8 +13,8 @@ use Rattle.replies.specs.Reply.{row, first}
 use Rattle.replies.proofs.Rows.{applies, passes}
 use Rattle.reports.specs.Report.{short}
 use Rattle.lookup.specs.Lookup.{isLink}
-use Rattle.rows.specs.declared.link.LinkRecord.{LinkRecord}
-use Rattle.rows.specs.Rows.{recordAt}
+use Rattle.linkrecords.specs.declared.LinkRecord.{LinkRecord}
+use Rattle.linkrecords.specs.LinkRecords.{recordAt}
 use Rattle.receiving.specs.Receive.{replyOf}
 
 -- open or waiting

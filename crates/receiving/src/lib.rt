@@ -2,14 +2,14 @@
 use counting::next;
 use discrimination::Came;
 use discrimination::from_link;
+use linkrecords::load_link;
 use lookup::is_link;
 use managing::manage;
 use numbers::take_message;
-use passing::pass::pass_on;
+use passing::pass_on;
 use replies::Answer;
 use replies::plain;
 use reports::short;
-use rows::link::load_link;
 ghost use Rattle.planwords.specs.Words.{planOf};
 ghost use mathlib.Core.Path.{_≡_};
 ghost use lib.ListN.{length};

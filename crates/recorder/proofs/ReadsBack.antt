@@ -21,7 +21,7 @@ use Rattle.octets.proofs.Octets.{hex-read-back}
 use Rattle.fields.specs.Fields.{number}
 use Rattle.kinds.specs.declared.Kind.{Kind}
 use Rattle.kinds.specs.declared.Kind.the-variants as Kind·
-use Rattle.kinds.specs.Kind.{timerOf}
+use Rattle.kindwords.specs.KindWords.{timerOf}
 use Rattle.entry.specs.Entry.{saysBy, keptWith, kindIn, readAs, keptAs}
 use Rattle.record.specs.declared.Reading.{Reading}
 use Rattle.record.specs.Record.{says, octet, code, callOf, callBy, readLine, messageAfter}

@@ -3,7 +3,7 @@ pub mod keep;
 
 use node::call::Event;
 use octets::hex::put_hex;
-use pages::number::put_number;
+use pages::put_number;
 use text::put::put;
 ghost use mathlib.Core.Path.{_≡_};
 ghost use mathlib.Core.List.{[], _∷_};

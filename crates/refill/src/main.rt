@@ -145,7 +145,7 @@ fn count_right(
 }
 
 fn is_right(rows: &[u64; 2048], octets: &[u8; 52416], slot: u8) -> bool {
-    let known = rows::slot::load_slot(rows, slot);
+    let known = slotrows::load_slot(rows, slot);
     let arrival = known.arrival;
     if known.point != arrival % 16384 || known.sls != arrival % 16 {
         return false;

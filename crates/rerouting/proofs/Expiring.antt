@@ -1,31 +1,31 @@
--- What the expiry of T6, T8 and T10 leaves: all as it was where it is refused, and else T6's flag cleared and what was held apart
--- moved, T8's flag cleared, T10's RST made. Assumes nothing.
+-- What the expiry of T6 and T10 leaves: all as it was where it is refused, and else T6's flag cleared and what was held apart moved,
+-- T10's RST made. Assumes nothing.
 use mathlib.Core.Path.{_≡_, refl, sym, ap, _∙_}
 use mathlib.Core.Bool.{Bool, true, false, cond}
 use mathlib.Core.List.{List}
 use Prim.Native.Nat.{ℕ, _≤_, _<_}
 use native.Mathlib.Omega.{arith}
-use lib.Dec.{eqb, ltb}
-use borrow.Author.Tests.{eq-eqb, eqb-true, eqb-false}
+use lib.Dec.{eqb}
+use borrow.Author.Tests.{eqb-true, eqb-false}
 use borrow.Table.Steps.{cases}
 use Rattle.plan.specs.declared.data.Plan.{Plan}
-use Rattle.plan.specs.Data.{setAt}
 use Rattle.plan.specs.Find.{placeOf}
-use Rattle.rows.specs.Rows.{withFlag}
+use Rattle.flags.specs.Flags.{withFlag}
 use Rattle.replies.specs.declared.Answer.{Answer}
 use Rattle.replies.specs.Reply.{plain, done}
 use Rattle.replies.specs.Areas.{Areas, areas, Outcome, outcome, judged, Leaves}
+use Rattle.replies.proofs.Judging.{is-refused, is-done}
 use Rattle.replies.proofs.Leaving.{leaves}
 use Rattle.reports.specs.Report.{short}
-use Rattle.queueing.specs.Leave.{State, state}
-use Rattle.queueing.proofs.States.{AllAre, all-whole}
+use Rattle.retiring.specs.Leave.{State, state}
+use Rattle.retiring.proofs.States.{AllAre, all-whole}
 use Rattle.making.specs.declared.Draft.{Draft}
 use Rattle.making.specs.declared.Made.{Made}
 use Rattle.making.specs.Make.{Held, held, heldIn, withHeld, withMade, makesReply, made}
 use Rattle.making.proofs.Making.{MakeLeaves, refused-kept}
-use Rattle.moving.specs.Move.{released}
-use Rattle.rerouting.specs.Timer.{replyOf, replyT6, expiredT6, expiredT8, replyT10, testOf, expiredT10}
-use Rattle.replies.proofs.Judging.{is-refused, is-done}
+use Rattle.releasing.specs.Release.{released}
+use Rattle.expiry.specs.Expiry.{replyOf, replyT10, testOf}
+use Rattle.rerouting.specs.Timer.{replyT6, expiredT6, expiredT10}
 
 -- an event that is refused leaves all as it was
 leaves-all : (told reply : ℕ) → told ≡ reply → (does : Outcome) (before : Areas) → 0 < told
@@ -33,20 +33,6 @@ leaves-all : (told reply : ℕ) → told ≡ reply → (does : Outcome) (before 
 leaves-all told reply is does before over answer r =
     leaves (judged reply does before) answer before
     (ap (λ (n : Answer). outcome n before) r ∙ is-refused told reply is does before over)
-
--- T8 only stops
-module _ (plan : Plan) (marks : List ℕ) (x : ℕ) where
-  t8-by : (does : Bool) → eqb (replyOf plan marks x 5) 0 ≡ does
-      → cond does (withFlag marks (placeOf plan x) 5 false) marks ≡ expiredT8 plan marks x
-  unfolding expiredT8
-  t8-by does e = ap (λ (t : Bool). cond t (withFlag marks (placeOf plan x) 5 false) marks) (sym e)
-
-  pub t8-refused : eqb (replyOf plan marks x 5) 0 ≡ false → marks ≡ expiredT8 plan marks x
-  t8-refused e = t8-by false e
-
-  pub t8-stops : replyOf plan marks x 5 ≡ 0 → (place : ℕ) → place ≡ placeOf plan x
-      → withFlag marks place 5 false ≡ expiredT8 plan marks x
-  t8-stops e place at = ap (λ (p : ℕ). withFlag marks p 5 false) at ∙ t8-by true (eq-eqb _ _ e)
 
 -- T6: whether the area is too short is told first
 module _ (plan : Plan) (a : Areas) (x : ℕ) (is-short : Bool) (tells : is-short ≡ short (a .reports)) where

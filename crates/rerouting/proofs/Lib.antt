@@ -1,3 +1,2 @@
-pub mod Replying
+pub mod Transferring
 pub mod Expiring
-pub mod Marking

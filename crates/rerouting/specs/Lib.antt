@@ -1,2 +1,2 @@
-pub mod Mark
+pub mod Transfer
 pub mod Timer

@@ -1,3 +1,3 @@
-// Forced and controlled rerouting: transfer prohibited and allowed, and the timers T6, T8 and T10.
-pub mod mark;
+// Forced and controlled rerouting carried out: transfer prohibited and allowed, and the timers T6 and T10.
 pub mod timer;
+pub mod transfer;

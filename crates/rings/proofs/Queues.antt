@@ -11,8 +11,8 @@ use lib.Dec.{ltb}
 use lib.ListN.{length, getD}
 use lib.Seq.{getD-set-same, getD-set-other}
 use borrow.Author.Tests.{lt-ltb, ltb-true, ltb-false}
-use Rattle.rows.specs.Rows.{spanAt}
-use Rattle.rows.specs.declared.span.Span.{Span}
+use Rattle.spanrows.specs.SpanRows.{spanAt}
+use Rattle.spanrows.specs.declared.Span.{Span}
 use Rattle.rings.specs.declared.ring.Taken.{Taken}
 use Rattle.rings.specs.Run.{run}
 use Rattle.rings.specs.Ring.{cell, countOf, entry, queue, one, atOf, takeOf, spansTaken, roomIn, spansPut, ringsPut}

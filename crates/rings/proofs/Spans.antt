@@ -8,8 +8,8 @@ use native.Mathlib.Omega.{arith}
 use lib.Dec.{ltb}
 use lib.ListN.{length}
 use borrow.Author.Tests.{lt-ltb, ltb-true, ltb-false}
-use Rattle.rows.specs.Rows.{spanAt, withSpan}
-use Rattle.rows.specs.declared.span.Span.{Span}
+use Rattle.spanrows.specs.SpanRows.{spanAt, withSpan}
+use Rattle.spanrows.specs.declared.Span.{Span}
 use Rattle.rows.proofs.Laws.{row-same, row-other, row-length}
 use Rattle.rings.specs.Ring.{countOf, headGone, spansTaken, roomIn, endGained, spansPut}
 use borrow.Table.Steps.{cases}

@@ -7,8 +7,8 @@ use native.Mathlib.Nat.{mod-add-mod}
 use lib.Dec.{ltb}
 use lib.ListN.{getD, set}
 use borrow.Author.Tests.{lt-ltb, le-ltb}
-use Rattle.rows.specs.Rows.{spanAt, withSpan}
-use Rattle.rows.specs.declared.span.Span.{Span}
+use Rattle.spanrows.specs.SpanRows.{spanAt, withSpan}
+use Rattle.spanrows.specs.declared.Span.{Span}
 use Rattle.rings.proofs.Cases.{cond-same}
 use Rattle.rings.specs.Ring.{cell, countOf, entry, one, none, atOf, takeOf, spansTaken, roomIn, endGained, spansPut, ringsPut}
 

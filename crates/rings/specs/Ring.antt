@@ -4,8 +4,8 @@ use mathlib.Core.Bool.{Bool, true, false, cond}
 use mathlib.Core.List.{List}
 use lib.Dec.{ltb}
 use lib.ListN.{getD, set}
-use Rattle.rows.specs.Rows.{spanAt, withSpan}
-use Rattle.rows.specs.declared.span.Span.{Span}
+use Rattle.spanrows.specs.SpanRows.{spanAt, withSpan}
+use Rattle.spanrows.specs.declared.Span.{Span}
 use Rattle.rings.specs.declared.ring.Taken.{Taken}
 use Rattle.rings.specs.Run.{run}
 

@@ -1,7 +1,7 @@
 // A ring: a queue of slots, of which `spans` has the head and the count and `rings` the 256 places.
-use rows::span::Span;
-use rows::span::load_span;
-use rows::span::store_span;
+use spanrows::Span;
+use spanrows::load_span;
+use spanrows::store_span;
 ghost use mathlib.Core.Path.{_≡_};
 ghost use Rattle.rings.specs.Ring as Ring;
 

@@ -9,9 +9,9 @@ use borrow.Author.Tests.{eqb-true, eqb-false}
 use borrow.Table.Steps.{cases}
 use Rattle.plan.specs.declared.data.Plan.{Plan}
 use Rattle.plan.specs.declared.data.Route.{Route}
-use Rattle.routing.specs.declared.state.Need.{Need}
+use Rattle.serving.specs.declared.Need.{Need}
 use Rattle.routing.specs.Chosen.{Lost}
-use Rattle.routing.specs.State as State
+use Rattle.serving.specs.State as State
 use Rattle.plan.specs.Data.{linksOf, routesOf}
 use Rattle.routing.specs.Which.{goingRound, firstServing, someServes, usable, linkFrom, chosen}
 use Rattle.routing.proofs.Ranks.{stays-usable, stays-unusable}

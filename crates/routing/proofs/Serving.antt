@@ -1,6 +1,6 @@
 -- Facts on the first link that serves, in a list and going round a set. Assumes nothing.
 use mathlib.Core.Path.{_≡_, refl, sym, ap, _∙_}
-use mathlib.Core.Bool.{Bool, true, false, _||_, and-eq-true-iff, or-assoc, or-comm, true≢false, false≢true}
+use mathlib.Core.Bool.{Bool, true, false, _||_, or-assoc, or-comm, true≢false, false≢true}
 use mathlib.Core.List.{List, [], _∷_, _++_, append-assoc, append-nil}
 use Prim.Native.Nat.{ℕ, zero, suc, _+_, _-_, _%_, _≤_, _<_}
 use native.Mathlib.Nat.{mod-lt, mod-eq-of-lt, mod-eq-sub-mod, mod-add-mod, mod-self, add-zero}
@@ -11,8 +11,6 @@ use lib.ListN.{length, getD, take, drop, length-append, length-take, length-drop
 use lib.Seq.{take-length, drop-length, drop-cons, take-suc, getD-append-add, getD-take, getD-drop}
 use borrow.Author.Tests.{lt-ltb, ltb-true, ltb-false}
 use borrow.Table.Steps.{cases}
-use Rattle.routing.specs.declared.state.Need.{Need}
-use Rattle.routing.specs.State.{serves}
 use Rattle.routing.specs.Which.{none, Proper, goingRound, firstServing, someServes}
 
 module _ (serves : ℕ → Bool) where
@@ -133,7 +131,3 @@ module _ (serves : ℕ → Bool) where
       ap (λ (p : ℕ). firstServing serves (goingRound p links)) next
       ∙ round-next links place (mod-lt (from + k) (omega arith)) there
       ∙ round-on links from here k (omega arith) (λ before b. passed before (omega arith))
-
--- what serves is a link
-pub serves-proper : (links : List ℕ) (need : Need) → Proper (serves links need)
-serves-proper links need link e = ltb-true link 32 (and-eq-true-iff (ltb link 32) _ .0 e .0)

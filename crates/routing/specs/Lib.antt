@@ -1,3 +1,2 @@
-pub mod State
 pub mod Which
 pub mod Chosen

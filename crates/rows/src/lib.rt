@@ -1,5 +1,1 @@
-// Rows of numbers in lent arrays: loaded as a small struct, changed, and stored.
-pub mod flag;
-pub mod link;
-pub mod slot;
-pub mod span;
+// Rows of numbers in lent arrays: what a row is, and the laws of one that is stored, for any width. Nothing here runs.

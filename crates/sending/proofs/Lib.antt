@@ -1,3 +1,1 @@
-pub mod AcknowledgeGiven
-pub mod FirstRows
 pub mod Window

@@ -1,2 +1,1 @@
-pub mod Acknowledge
 pub mod Send

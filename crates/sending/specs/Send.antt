@@ -6,8 +6,9 @@ use mathlib.Core.List.{List, [], _∷_}
 use lib.Dec.{eqb, ltb, leb}
 use lib.ListN.{length}
 use Rattle.plan.specs.declared.data.Plan.{Plan}
-use Rattle.rows.specs.declared.slot.Slot.{Slot}
-use Rattle.rows.specs.Rows.{recordAt, withSent, slotAt}
+use Rattle.slotrows.specs.declared.Slot.{Slot}
+use Rattle.linkrecords.specs.LinkRecords.{recordAt, withSent}
+use Rattle.slotrows.specs.SlotRows.{slotAt}
 use Rattle.rings.specs.Ring.{countOf, atOf}
 use Rattle.slots.specs.Message.{copied, copiedSize}
 use Rattle.wire.specs.declared.header.Label.{Label}

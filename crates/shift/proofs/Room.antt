@@ -19,8 +19,8 @@ use Rattle.node.specs.declared.call.Event.{Event}
 use Rattle.showing.specs.declared.shows.Shows.{Shows}
 use Rattle.showing.specs.declared.shows.Shows.the-variants.{Sent, Delivered, Listed, Nothing}
 use Rattle.pages.specs.Page.{joined, ended, parted}
-use Rattle.pages.specs.Reported.{reported, reportedFrom, allReported}
-use Rattle.pages.specs.Refused.{unreadable}
+use Rattle.reportlines.specs.Reported.{reported, reportedFrom, allReported}
+use Rattle.refusals.specs.Refused.{unreadable}
 use Rattle.showing.specs.Reply.{replied, replyWord, behind}
 use Rattle.showing.specs.Routed.{routed, routeWord}
 use Rattle.answers.specs.Answers.{answered, showsOf, listed}

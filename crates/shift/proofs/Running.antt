@@ -17,7 +17,7 @@ use Rattle.record.specs.declared.Reading.{Reading}
 use Rattle.record.specs.declared.Reading.the-variants.{Call, Unreadable}
 use Rattle.record.specs.Record.{readLine, messageAfter}
 use Rattle.pages.specs.Page.{page, puts, joined}
-use Rattle.pages.specs.Refused.{unreadable}
+use Rattle.refusals.specs.Refused.{unreadable}
 use Rattle.shift.specs.declared.run.Place.{Place}
 use Rattle.shift.specs.declared.run.View.{View}
 use Rattle.shift.specs.Shift.{Desk, desk, deskAt, shown, onward, ranLine, runBy}

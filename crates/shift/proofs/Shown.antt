@@ -7,7 +7,7 @@ use lib.Dec.{leb}
 use borrow.Author.Tests.{le-leb, lt-leb}
 use Rattle.replies.specs.declared.Answer.{Answer}
 use Rattle.node.specs.declared.call.Event.{Event}
-use Rattle.pages.specs.Reported.{allReported}
+use Rattle.reportlines.specs.Reported.{allReported}
 use Rattle.answers.specs.Answers.{answered}
 use Rattle.shift.specs.declared.run.View.{View}
 use Rattle.shift.specs.Shift.{shown}

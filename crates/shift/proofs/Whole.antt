@@ -18,7 +18,7 @@ use Rattle.text.specs.Part.{split, marked, onFirst, isEmpty, lf, lineAt}
 use Rattle.text.proofs.Parts.{split-last}
 use Rattle.pages.specs.Page.{joined}
 use Rattle.configuration.specs.Configure.{configured}
-use Rattle.pages.specs.Refused.{unreadable, refusedBy}
+use Rattle.refusals.specs.Refused.{unreadable, refusedBy}
 use Rattle.shift.specs.declared.run.View.{View}
 use Rattle.shift.specs.Shift.{Desk, desk, ran, ranLine, runBy, refused, goesOn, linesFrom, answersOf, toWrite, firstDesk, replayOf}
 use Rattle.shift.proofs.Lines.{lines-are, past-line}

@@ -20,8 +20,8 @@ use Rattle.record.specs.declared.Reading.{Reading}
 use Rattle.record.specs.declared.Reading.the-variants.{Call, Unreadable}
 use Rattle.record.specs.Record.{readLine, messageAfter}
 use Rattle.pages.specs.Page.{joined}
-use Rattle.pages.specs.Reported.{allReported}
-use Rattle.pages.specs.Refused.{unreadable, refusedBy}
+use Rattle.reportlines.specs.Reported.{allReported}
+use Rattle.refusals.specs.Refused.{unreadable, refusedBy}
 use Rattle.answers.specs.Answers.{answered}
 use Rattle.shift.specs.declared.run.Place.{Place}
 use Rattle.shift.specs.declared.run.View.{View}

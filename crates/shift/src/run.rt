@@ -2,11 +2,11 @@
 use answers::answer::put_answer;
 use node::call::Event;
 use node::call::call;
-use pages::refusal::put_unreadable;
-use pages::reported::put_reports;
 use record::Reading;
 use record::read_line;
+use refusals::put_unreadable;
 use replies::Answer;
+use reportlines::put_reports;
 use std::num::wrapping_add_u64;
 use text::part::Part;
 use text::part::between;

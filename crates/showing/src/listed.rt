@@ -1,5 +1,5 @@
 // The lines of a route list.
-use pages::number::put_number;
+use pages::put_number;
 use text::part::between;
 use text::part::line;
 use text::put::put;

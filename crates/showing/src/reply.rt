@@ -2,7 +2,7 @@
 use crate::shows::Shows;
 use numerals::decimal::put_decimal;
 use octets::hex::put_hex;
-use pages::number::put_number;
+use pages::put_number;
 use replies::Answer;
 use text::part::between;
 use text::put::put;

@@ -9,7 +9,8 @@ use lib.Dec.{ltb}
 use lib.ListN.{length, getD}
 use lib.Seq.{sets, sets-eq}
 use borrow.Author.Tests.{lt-ltb, le-ltb, le-leb, lt-leb}
-use Rattle.rows.specs.Rows.{wordAt, withSlot}
+use Rattle.rows.specs.Rows.{wordAt}
+use Rattle.slotrows.specs.SlotRows.{withSlot}
 use Rattle.slots.specs.Message.{userRow, fits, userRows, userOctets, octetsAt, copies, copiedSize, copied}
 use Rattle.rings.proofs.Runs.{run-length, run-at}
 use Rattle.rings.proofs.Cases.{cond-same}

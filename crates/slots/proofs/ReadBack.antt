@@ -7,8 +7,9 @@ use Prim.Native.Nat.{ℕ, _+_, _≤_, _<_}
 use native.Mathlib.Omega.{arith}
 use lib.ListN.{length, drop}
 use borrow.Author.Tests.{ltb-true, le-leb}
-use Rattle.rows.specs.Rows.{slotAt, withSlot, wordAt, withRow}
-use Rattle.rows.specs.declared.slot.Slot.{Slot}
+use Rattle.rows.specs.Rows.{wordAt, withRow}
+use Rattle.slotrows.specs.SlotRows.{slotAt, withSlot}
+use Rattle.slotrows.specs.declared.Slot.{Slot}
 use Rattle.rows.proofs.Laws.{row-same, row-other, row-length}
 use Rattle.slots.specs.Message.{userRow, managementRow, fits, userRows, userOctets, managementRows, octetsAt, copies, copied}
 use Rattle.slots.specs.Write.{Write, slotOf, written, rowOf, rowsWith, octetsWith, Elsewhere, rowsAfter, octetsAfter}

@@ -4,8 +4,9 @@ use mathlib.Core.Bool.{Bool, false, cond}
 use mathlib.Core.List.{List, _++_}
 use lib.Dec.{ltb, leb}
 use lib.ListN.{length, drop}
-use Rattle.rows.specs.Rows.{wordAt, withRow, withSlot}
-use Rattle.rows.specs.declared.slot.Slot.{Slot}
+use Rattle.rows.specs.Rows.{wordAt, withRow}
+use Rattle.slotrows.specs.SlotRows.{withSlot}
+use Rattle.slotrows.specs.declared.Slot.{Slot}
 use Rattle.rings.specs.Run.{run}
 
 -- whether so many octets fit a slot for user messages

@@ -5,7 +5,7 @@ use mathlib.Core.Bool.{Bool}
 use mathlib.Core.List.{List, [], _∷_}
 use lib.Dec.{ltb}
 use lib.ListN.{length}
-use Rattle.rows.specs.declared.slot.Slot.{Slot}
+use Rattle.slotrows.specs.declared.Slot.{Slot}
 use Rattle.slots.specs.Message.{fits, userRow, managementRow, userRows, userOctets, managementRows}
 
 -- a message that is written into a slot

@@ -1,6 +1,6 @@
 // A message in its slot: what is known of it in `rows`, and the octets of a user message in `octets`, 273 for each slot.
-use rows::slot::Slot;
-use rows::slot::store_slot;
+use slotrows::Slot;
+use slotrows::store_slot;
 ghost use mathlib.Core.Path.{_≡_};
 ghost use lib.ListN.{length};
 ghost use Rattle.slots.specs.Message as Message;

@@ -9,8 +9,9 @@ use lib.Dec.{ltb}
 use lib.ListN.{length, getD}
 use lib.Seq.{length-sets}
 use borrow.Author.Tests.{lt-ltb, le-ltb, eq-eqb, ne-eqb, ltb-true, ltb-false}
-use Rattle.rows.specs.Rows.{spanAt, withSpan, wordAt}
-use Rattle.rows.specs.declared.span.Span.{Span}
+use Rattle.rows.specs.Rows.{wordAt}
+use Rattle.spanrows.specs.SpanRows.{spanAt, withSpan}
+use Rattle.spanrows.specs.declared.Span.{Span}
 use Rattle.rows.proofs.Laws.{row-same, row-other, row-length}
 use Rattle.rings.specs.Run.{run}
 use Rattle.rings.specs.Ring.{cell, countOf, entry, queue}

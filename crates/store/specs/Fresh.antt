@@ -2,7 +2,8 @@
 use Prim.Native.Nat.{ℕ, _+_, _%_}
 use mathlib.Core.List.{List}
 use lib.Seq.{sets}
-use Rattle.rows.specs.Rows.{withRow, withSpan}
+use Rattle.rows.specs.Rows.{withRow}
+use Rattle.spanrows.specs.SpanRows.{withSpan}
 use Rattle.rings.specs.Run.{run}
 
 -- the first words of an area are 0

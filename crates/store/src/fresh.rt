@@ -1,6 +1,6 @@
 // The store before its first message: every slot is free.
-use rows::span::Span;
-use rows::span::store_span;
+use spanrows::Span;
+use spanrows::store_span;
 ghost use mathlib.Core.Path.{_≡_};
 ghost use Rattle.store.specs.Fresh as Fresh;
 

@@ -7,8 +7,9 @@ use Rattle.plan.specs.declared.data.Plan.{Plan}
 use Rattle.replies.specs.Areas.{Areas, Outcome}
 use Rattle.ending.specs.declared.Cut.{Cut}
 use Rattle.ending.specs.End.{cutNone, outOfService}
-use Rattle.changeover.specs.Fail.{stateAt, openFailed}
-use Rattle.orders.specs.declared.step.Step.{Step}
+use Rattle.failure.specs.Failure.{stateAt}
+use Rattle.changeover.specs.Fail.{openFailed}
+use Rattle.steps.specs.declared.Step.{Step}
 use Rattle.orders.specs.Carry.{endedBy}
 use Rattle.table.proofs.Either.{either}
 

@@ -18,8 +18,8 @@ use Rattle.discrimination.specs.declared.Came.{Came}
 use Rattle.discrimination.specs.declared.Came.the-variants.{Malformed, Foreign, Passed}
 use Rattle.discrimination.specs.Discrimination.{fromHost}
 use Rattle.discrimination.specs.Discrimination as Discrimination
-use Rattle.passing.specs.Pass.{placeReply}
-use Rattle.passing.specs.Host.{refuses, offered, fromHostBy, sent}
+use Rattle.passage.specs.Passage.{placeReply}
+use Rattle.offering.specs.Host.{refuses, offered, fromHostBy, sent}
 use Rattle.table.specs.Received.{isMalformed, isForeign}
 use Rattle.table.specs.Table.{isRefused, fromHostRows}
 use Rattle.table.proofs.Either.{either}

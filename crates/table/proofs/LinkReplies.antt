@@ -5,19 +5,22 @@ use mathlib.Core.List.{List, [], _∷_}
 use mathlib.Core.Path.{_≡_, refl, sym, ap, _∙_}
 use lib.Dec.{ltb, leb}
 use Rattle.plan.specs.declared.data.Plan.{Plan}
-use Rattle.rows.specs.Rows.{recordAt}
+use Rattle.linkrecords.specs.LinkRecords.{recordAt}
 use Rattle.replies.specs.declared.Answer.{Answer}
 use Rattle.replies.specs.Reply.{Row, row, first, ifDone}
 use Rattle.replies.specs.Areas.{Areas}
 use Rattle.reports.specs.Report.{short}
 use Rattle.lookup.specs.Lookup.{isLink}
 use Rattle.queueing.specs.Queue.{noManagementPlace, noNumber, managementReply}
+use Rattle.inservice.specs.InService as InService
 use Rattle.changeback.specs.Service as Service
+use Rattle.failure.specs.Failure as Failure
 use Rattle.changeover.specs.Fail as Fail
-use Rattle.changeover.specs.Timer as Timer
+use Rattle.failure.specs.Overdue as Overdue
+use Rattle.overdue.specs.Expire as Timer
 use Rattle.waiting.specs.Wait as Wait
 use Rattle.sending.specs.Send as Send
-use Rattle.sending.specs.Acknowledge as Acknowledge
+use Rattle.acknowledging.specs.Acknowledge as Acknowledge
 use Rattle.node.specs.Memory.{Memory}
 use Rattle.node.specs.Call.{sends, acknowledges}
 use Rattle.table.specs.Table.{stateIs, intoServiceRows, failureRows, sendRows, acknowledgementRows, changeoverRows, t3Rows, t4Rows}
@@ -36,10 +39,10 @@ module _ (plan : Plan) (link : ℕ) (a : Areas) where
 
   -- whether its CBD is due
   abbrev due : Bool
-  due = Service.declares (Service.sourcesIn plan (a .links) (a .marks) link)
+  due = InService.declares (InService.sourcesIn plan (a .links) (a .marks) link)
 
   service-reply : Service.replyOf plan a link ≡ first (intoServiceRows plan link a)
-  unfolding Service.replyOf Service.replyFirst Service.declareReply managementReply
+  unfolding Service.replyOf InService.replyFirst Service.declareReply managementReply
   service-reply =
       ap (λ (n : ℕ). ifDone (first before) n (first before)) (with-two due 8 10 (noManagementPlace (a .spans)) (noNumber (a .arrivals)))
       ∙ sym (continued before _ refl)
@@ -50,20 +53,20 @@ module _ (plan : Plan) (link : ℕ) (a : Areas) where
 
   -- a link fails
   pub failure : Fail.failed plan a link .answer .reply ≡ first (failureRows plan link a)
-  unfolding Fail.failed Fail.replyOf
-  failure = judged-done (Fail.replyOf plan (a .links) link (a .reports)) _ a (failed-done plan a link)
+  unfolding Fail.failed Failure.replyOf
+  failure = judged-done (Failure.replyOf plan (a .links) link (a .reports)) _ a (failed-done plan a link)
 
   -- T1, T2
-  expires : (timer : ℕ) → Timer.expired plan a link timer .answer .reply ≡ Timer.replyOf plan (a .links) link timer (a .reports)
+  expires : (timer : ℕ) → Timer.expired plan a link timer .answer .reply ≡ Overdue.replyOf plan (a .links) link timer (a .reports)
   unfolding Timer.expired
-  expires timer = judged-done (Timer.replyOf plan (a .links) link timer (a .reports)) _ a (out-done plan a link _)
+  expires timer = judged-done (Overdue.replyOf plan (a .links) link timer (a .reports)) _ a (out-done plan a link _)
 
   pub t1 : Timer.expired plan a link 1 .answer .reply ≡ first (changeoverRows plan link 1 a)
-  unfolding Timer.replyOf
+  unfolding Overdue.replyOf
   t1 = expires 1
 
   pub t2 : Timer.expired plan a link 2 .answer .reply ≡ first (changeoverRows plan link 2 a)
-  unfolding Timer.replyOf
+  unfolding Overdue.replyOf
   t2 = expires 2
 
   -- T3, T4

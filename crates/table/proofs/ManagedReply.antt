@@ -8,19 +8,22 @@ use lib.Dec.{eqb, ltb}
 use borrow.Author.Tests.{eqb-true}
 use borrow.Table.Steps.{cases}
 use Rattle.plan.specs.declared.data.Plan.{Plan}
-use Rattle.rows.specs.Rows.{recordAt}
+use Rattle.linkrecords.specs.LinkRecords.{recordAt}
 use Rattle.network.specs.declared.management.Message.{Message}
 use Rattle.network.specs.declared.management.Message.the-variants.{COO, COA, CBD, CBA, ECO, ECA, TFP, TFA, RST}
 use Rattle.replies.specs.Reply.{Row, row, first}
 use Rattle.replies.specs.Areas.{Areas, Outcome}
 use Rattle.lookup.specs.Lookup.{linkNamed}
 use Rattle.queueing.specs.Queue.{noManagementPlace, noNumber}
-use Rattle.orders.specs.declared.step.Step.{Step}
-use Rattle.orders.specs.Ask.{orderStep, ackStep, askCOO, askCOA, askECO, askECA, askCBD, allows, askRST}
+use Rattle.steps.specs.declared.Step.{Step}
+use Rattle.steps.specs.Step.{orderStep, ackStep}
+use Rattle.asking.specs.Ask.{askCOO, askCOA, askECO, askECA}
+use Rattle.requests.specs.Request.{askCBD, allows, askRST}
 use Rattle.orders.specs.Carry.{answerReply, carried}
-use Rattle.waiting.specs.Wait.{answers}
-use Rattle.rerouting.specs.Mark.{counts, transferred}
-use Rattle.managing.specs.Managed.{asked, answeredBy, carriedOut, managed}
+use Rattle.waiting.specs.Wait.{answers, answeredBy}
+use Rattle.marking.specs.Mark.{counts}
+use Rattle.rerouting.specs.Transfer.{transferred}
+use Rattle.managing.specs.Managed.{asked, carriedOut, managed}
 use Rattle.table.specs.Received.{pathFor, answerNeeds, namesNothing}
 use Rattle.table.proofs.Either.{either, of-either}
 use Rattle.table.proofs.Judged.{judged-done}

@@ -14,23 +14,25 @@ use Rattle.replies.specs.Areas.{Areas, areas, Outcome, withLinks, withMarks}
 use Rattle.changeback.specs.Service.{intoService}
 use Rattle.changeback.specs.Service as Service
 use Rattle.changeover.specs.Fail.{failed}
-use Rattle.changeover.specs.Fail as Fail
-use Rattle.changeover.specs.Timer as Timer
+use Rattle.failure.specs.Failure as Failure
+use Rattle.failure.specs.Overdue as Overdue
+use Rattle.overdue.specs.Expire as Timer
 use Rattle.wire.specs.declared.header.Label.{Label}
-use Rattle.queueing.specs.Head.{Queues, both}
+use Rattle.heads.specs.Head.{Queues, both}
 use Rattle.queueing.specs.Queue.{userOctets}
 use Rattle.making.specs.Make.{makesReply}
 use Rattle.discrimination.specs.declared.Came.{Came}
 use Rattle.discrimination.specs.declared.Came.the-variants.{Malformed, Foreign, Delivered, Managed, Passed}
 use Rattle.discrimination.specs.Discrimination.{fromHost}
-use Rattle.rerouting.specs.Timer.{replyT6, replyT10, testOf, replyOf, expiredT6, expiredT8, expiredT10}
-use Rattle.passing.specs.Pass.{placeReply, octetsQueued}
-use Rattle.passing.specs.Host.{offered, fromHostBy, sent, octetsOffered, octetsBy, octetsSent}
-use Rattle.passing.specs.Host as Host
+use Rattle.rerouting.specs.Timer.{replyT6, expiredT6, expiredT10}
+use Rattle.expiry.specs.Expiry.{replyT10, testOf, replyOf, expiredT8}
+use Rattle.passage.specs.Passage.{placeReply, octetsQueued}
+use Rattle.offering.specs.Host.{offered, fromHostBy, sent, octetsOffered, octetsBy, octetsSent}
+use Rattle.offering.specs.Host as Host
 use Rattle.listing.specs.RouteList.{listReply, listOf, laid}
 use Rattle.waiting.specs.Wait as Wait
 use Rattle.sending.specs.Send as Send
-use Rattle.sending.specs.Acknowledge as Acknowledge
+use Rattle.acknowledging.specs.Acknowledge as Acknowledge
 use Rattle.node.specs.Memory.{Memory, memory}
 use Rattle.node.specs.Call.{sends, acknowledges, waitEnds, t8Ends, lists}
 use Rattle.table.proofs.Either.{either-both, otherwise}
@@ -55,12 +57,12 @@ module _ (plan : Plan) (m : Memory) where
 
   pub failure : (link : ℕ) → KeptBy (failed plan a link)
   unfolding failed
-  failure link = judged-kept refuses m (Fail.replyOf plan (a .links) link (a .reports)) _ (is-done _ (failed-done plan a link))
+  failure link = judged-kept refuses m (Failure.replyOf plan (a .links) link (a .reports)) _ (is-done _ (failed-done plan a link))
 
   pub changeover : (link timer : ℕ) → KeptBy (Timer.expired plan a link timer)
   unfolding Timer.expired
   changeover link timer =
-      judged-kept refuses m (Timer.replyOf plan (a .links) link timer (a .reports)) _ (is-done _ (out-done plan a link _))
+      judged-kept refuses m (Overdue.replyOf plan (a .links) link timer (a .reports)) _ (is-done _ (out-done plan a link _))
 
   pub t6 : (x : ℕ) → KeptBy (expiredT6 plan a x)
   unfolding expiredT6

@@ -10,7 +10,8 @@ use Rattle.replies.specs.Reply.{Row, row, first, ifDone}
 use Rattle.replies.specs.Areas.{Areas, Outcome}
 use Rattle.queueing.specs.Queue.{noUserPlace, noManagementPlace, noNumber}
 use Rattle.making.specs.Make.{makesReply}
-use Rattle.passing.specs.Pass.{unreachable, placeReply, tells, prohibitedTo, notReached, passed}
+use Rattle.passage.specs.Passage.{unreachable, placeReply, tells, prohibitedTo}
+use Rattle.passing.specs.Pass.{notReached, passed}
 use Rattle.table.specs.Received.{pathFor}
 use Rattle.table.proofs.Either.{of-either}
 use Rattle.table.proofs.Judged.{judged-reply, judged-done}

@@ -22,12 +22,14 @@ use Rattle.making.specs.Make as Make
 use Rattle.discrimination.specs.declared.Came.{Came}
 use Rattle.discrimination.specs.declared.Came.the-variants.{Malformed, Foreign, Delivered, Managed, Passed}
 use Rattle.discrimination.specs.Discrimination.{fromLink}
-use Rattle.orders.specs.declared.step.Step.{Step}
+use Rattle.steps.specs.declared.Step.{Step}
 use Rattle.orders.specs.Carry.{answerReply, carried}
-use Rattle.waiting.specs.Wait.{answers}
-use Rattle.rerouting.specs.Mark.{counts, transferred}
-use Rattle.passing.specs.Pass.{unreachable, placeReply, octetsQueued, tells, prohibitedTo, withT8, marksTold, notReached, passed, octetsPassed}
-use Rattle.managing.specs.Managed.{answeredBy, carriedOut, managed}
+use Rattle.waiting.specs.Wait.{answers, answeredBy}
+use Rattle.marking.specs.Mark.{counts}
+use Rattle.rerouting.specs.Transfer.{transferred}
+use Rattle.passage.specs.Passage.{unreachable, placeReply, octetsQueued, tells, prohibitedTo, withT8}
+use Rattle.passing.specs.Pass.{marksTold, notReached, passed, octetsPassed}
+use Rattle.managing.specs.Managed.{carriedOut, managed}
 use Rattle.receiving.specs.Receive.{replyOf, receivedBy, received, octetsBy, octetsReceived}
 use Rattle.node.specs.Memory.{Memory, memory}
 use Rattle.table.specs.Received.{pathFor, makesTFP}

@@ -7,7 +7,7 @@ use lib.Dec.{eqb, leb}
 use lib.ListN.{length}
 use Rattle.plan.specs.declared.data.Plan.{Plan}
 use Rattle.counting.specs.Counting.{next}
-use Rattle.rows.specs.Rows.{recordAt}
+use Rattle.linkrecords.specs.LinkRecords.{recordAt}
 use Rattle.replies.specs.Reply.{Row, row, first, ifDone}
 use Rattle.replies.specs.Areas.{Areas}
 use Rattle.reports.specs.Report.{short}

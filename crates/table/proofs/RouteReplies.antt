@@ -8,7 +8,7 @@ use lib.Dec.{ltb, leb}
 use lib.ListN.{length}
 use Rattle.plan.specs.declared.data.Plan.{Plan}
 use Rattle.plan.specs.Find.{placeOf}
-use Rattle.rows.specs.Rows.{flagAt}
+use Rattle.flags.specs.Flags.{flagAt}
 use Rattle.replies.specs.Reply.{Row, row, first, ifDone}
 use Rattle.replies.specs.Areas.{Areas}
 use Rattle.reports.specs.Report.{short}
@@ -17,7 +17,8 @@ use Rattle.queueing.specs.Queue.{noManagementPlace, noNumber, managementReply}
 use Rattle.making.specs.declared.Draft.{Draft}
 use Rattle.making.specs.Make.{hasPath, makesReply}
 use Rattle.making.specs.Make as Make
-use Rattle.rerouting.specs.Timer.{isDestination, replyOf, replyT6, replyT10, testOf, expiredT6, expiredT10}
+use Rattle.expiry.specs.Expiry.{isDestination, replyOf, replyT10, testOf}
+use Rattle.rerouting.specs.Timer.{replyT6, expiredT6, expiredT10}
 use Rattle.listing.specs.RouteList.{listReply}
 use Rattle.node.specs.Memory.{Memory}
 use Rattle.table.specs.Table.{t6Rows, t8Rows, t10Rows, routeListRows}

@@ -11,10 +11,10 @@ use Rattle.discrimination.specs.declared.Came.the-variants.{Malformed, Foreign,
 use Rattle.making.specs.declared.Draft.{Draft}
 use Rattle.making.specs.Make.{hasPath}
 use Rattle.queueing.specs.Queue.{noManagementPlace, noNumber}
-use Rattle.orders.specs.declared.step.Step.{Step}
+use Rattle.steps.specs.declared.Step.{Step}
 use Rattle.waiting.specs.Wait.{answers}
-use Rattle.rerouting.specs.Mark.{counts}
-use Rattle.passing.specs.Pass.{unreachable, tells, prohibitedTo}
+use Rattle.marking.specs.Mark.{counts}
+use Rattle.passage.specs.Passage.{unreachable, tells, prohibitedTo}
 use Rattle.managing.specs.Managed.{asked}
 
 -- row 3: "message malformed"

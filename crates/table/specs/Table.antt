@@ -7,7 +7,8 @@ use lib.ListN.{length}
 use Rattle.plan.specs.declared.data.Plan.{Plan}
 use Rattle.plan.specs.Find.{placeOf}
 use Rattle.counting.specs.Counting.{next, inRange}
-use Rattle.rows.specs.Rows.{recordAt, flagAt}
+use Rattle.flags.specs.Flags.{flagAt}
+use Rattle.linkrecords.specs.LinkRecords.{recordAt}
 use Rattle.rings.specs.Ring.{countOf}
 use Rattle.replies.specs.Reply.{Row, row}
 use Rattle.replies.specs.Areas.{Areas}
@@ -18,9 +19,9 @@ use Rattle.making.specs.Make.{hasPath}
 use Rattle.discrimination.specs.declared.Came.{Came}
 use Rattle.discrimination.specs.declared.Came.the-variants.{Malformed, Foreign, Delivered, Managed, Passed}
 use Rattle.discrimination.specs.Discrimination.{fromLink, fromHost}
-use Rattle.changeback.specs.Service.{declares, sourcesIn}
-use Rattle.rerouting.specs.Timer.{isDestination, testOf}
-use Rattle.passing.specs.Host.{refuses}
+use Rattle.inservice.specs.InService.{declares, sourcesIn}
+use Rattle.expiry.specs.Expiry.{isDestination, testOf}
+use Rattle.offering.specs.Host.{refuses}
 use Rattle.node.specs.declared.call.Event.{Event}
 use Rattle.node.specs.declared.call.Event.the-variants.{IntoService, Failure, Send, Acknowledgement, Received, FromHost, T1, T2, T3, T4, T6, T8, T10, RouteList}
 use Rattle.node.specs.Memory.{Memory}

@@ -8,7 +8,7 @@ use Rattle.numbers.specs.Taken.{withTaken}
 use Rattle.making.specs.Make.{heldIn, withHeld, made}
 use Rattle.discrimination.specs.declared.Came.{Came}
 use Rattle.discrimination.specs.declared.Came.the-variants.{Malformed, Foreign, Delivered, Managed, Passed}
-use Rattle.passing.specs.Pass.{prohibitedTo, withT8}
+use Rattle.passage.specs.Passage.{prohibitedTo, withT8}
 use Rattle.node.specs.Memory.{Memory, memory}
 use Rattle.table.specs.Received.{makesTFP}
 

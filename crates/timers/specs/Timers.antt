@@ -5,8 +5,9 @@ use mathlib.Core.List.{List}
 use lib.Dec.{eqb, ltb}
 use Rattle.plan.specs.declared.data.Plan.{Plan}
 use Rattle.plan.specs.Find.{placeOf, isFound}
-use Rattle.rows.specs.declared.link.LinkRecord.{LinkRecord}
-use Rattle.rows.specs.Rows.{recordAt, flagAt}
+use Rattle.linkrecords.specs.declared.LinkRecord.{LinkRecord}
+use Rattle.flags.specs.Flags.{flagAt}
+use Rattle.linkrecords.specs.LinkRecords.{recordAt}
 use Rattle.lookup.specs.Lookup.{isLink, rankBy}
 
 -- a timer of a link, by its number: T4 runs exactly while a CBD is unanswered

@@ -1,10 +1,10 @@
 // Which timers run, for the host to read after a call.
+use flags::flag;
+use linkrecords::LinkRecord;
+use linkrecords::load_link;
 use lookup::is_link;
 use lookup::rank_by;
 use planwords::find::find;
-use rows::flag::flag;
-use rows::link::LinkRecord;
-use rows::link::load_link;
 ghost use Rattle.planwords.specs.Words.{planOf};
 ghost use mathlib.Core.Path.{_≡_};
 ghost use Rattle.timers.specs.Timers as Timers;

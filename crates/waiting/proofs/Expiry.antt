@@ -12,9 +12,10 @@ use Rattle.plan.specs.declared.data.Plan.{Plan}
 use Rattle.replies.specs.Reply.{row, first}
 use Rattle.replies.proofs.Rows.{applies, passes}
 use Rattle.lookup.specs.Lookup.{isLink}
-use Rattle.rows.specs.declared.link.LinkRecord.{LinkRecord}
-use Rattle.rows.specs.Rows.{recordAt, withRecord}
-use Rattle.waiting.specs.Wait.{runs, replyOf, stopped, expired}
+use Rattle.linkrecords.specs.declared.LinkRecord.{LinkRecord}
+use Rattle.linkrecords.specs.LinkRecords.{recordAt, withRecord}
+use Rattle.opening.specs.Opening.{runs, stopped}
+use Rattle.waiting.specs.Wait.{replyOf, expired}
 
 -- the last row: whether the timer runs
 last-row : (running : Bool) → first (row 5 (not running) ∷ []) ≡ cond running 0 5

@@ -1,30 +1,16 @@
--- "It opens when no CBD is unanswered and T3 isn't running. The last answer stops T4; its expiry counts as every answer."
+-- A waiting link: T3 and T4 expire, and a CBA answers its CBD.
 use Prim.Native.Nat.{ℕ, _+_}
-use mathlib.Core.Bool.{Bool, false, cond, not, _&&_, _||_}
+use mathlib.Core.Bool.{Bool, cond, not, _&&_, _||_}
 use mathlib.Core.List.{List, [], _∷_}
 use lib.Dec.{eqb, ltb, leb}
 use Rattle.plan.specs.declared.data.Plan.{Plan}
-use Rattle.rows.specs.declared.link.LinkRecord.{LinkRecord}
-use Rattle.rows.specs.Rows.{recordAt, withRecord}
-use Rattle.replies.specs.Reply.{row, first, ifDone}
+use Rattle.linkrecords.specs.LinkRecords.{recordAt, withRecord}
+use Rattle.replies.specs.Reply.{row, first, done, ifDone}
+use Rattle.replies.specs.Areas.{Areas, Outcome, outcome, withLinks}
+use Rattle.numbers.specs.Numbers.{taken}
+use Rattle.numbers.specs.Taken.{takenOnly}
 use Rattle.lookup.specs.Lookup.{isLink, linkNamed}
-
--- a waiting link opens when nothing is left to wait for
-abbrev pub waits : LinkRecord → Bool → ℕ → LinkRecord
-waits known t3 code =
-    record {
-      state = cond (eqb (known .state) 1 && (not t3 && eqb code 0)) 2 (known .state);
-      acknowledged = known .acknowledged;
-      received = known .received;
-      sent = known .sent;
-      timer = known .timer;
-      t3 = t3;
-      code = code;
-    }
-
--- whether T3, or T4, runs: T4 exactly while a CBD is unanswered
-abbrev pub runs : LinkRecord → ℕ → Bool
-runs known timer = cond (eqb timer 3) (known .t3) (ltb 0 (known .code))
+use Rattle.opening.specs.Opening.{runs, stopped}
 
 -- the reply to the expiry of T3 or T4: 1, also for another timer, 2, 5 where it isn't running
 unfoldable pub replyOf : Plan → List ℕ → ℕ → ℕ → ℕ
@@ -34,10 +20,6 @@ replyOf plan links link timer =
     ∷ row 2 (not (isLink plan link))
     ∷ row 5 (not (runs (recordAt links link) timer))
     ∷ [])
-
--- the record after it
-unfoldable pub stopped : LinkRecord → ℕ → LinkRecord
-stopped known timer = cond (eqb timer 3) (waits known false (known .code)) (waits known (known .t3) 0)
 
 -- the links after it
 unfoldable pub expired : Plan → List ℕ → ℕ → ℕ → List ℕ
@@ -54,3 +36,10 @@ unfoldable pub answered : Plan → List ℕ → ℕ → ℕ → List ℕ
 answered plan links point slc =
     let link = linkNamed plan point slc in
     withRecord links link (stopped (recordAt links link) 4)
+
+-- CBA: "only while its CBD is unanswered, else 11"
+unfoldable pub answeredBy : Plan → ℕ → ℕ → ℕ → ℕ → ℕ → Areas → Outcome
+answeredBy plan arriving fsn point slc code a =
+    cond (answers plan (a .links) point slc code)
+    (outcome (done 0) (withLinks a (answered plan (taken (a .links) arriving fsn) point slc)))
+    (takenOnly arriving fsn 11 a)

@@ -2,8 +2,8 @@
 -- Assumes nothing.
 use borrow.Author.Needs.{needs}
 use Rattle.planwords.specs.Words.{planAt}
-use Rattle.queueing.specs.Leave.{state}
-use Rattle.queueing.proofs.States.{all-same}
+use Rattle.retiring.specs.Leave.{state}
+use Rattle.retiring.proofs.States.{all-same}
 use Rattle.ending.proofs.Ending.{clear-done}
 use Rattle.ending.proofs.clear.Statement.{statement}
 use Rattle.ending.proofs.clear.Tie as tie

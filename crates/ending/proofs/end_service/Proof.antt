@@ -3,7 +3,7 @@
 use borrow.Author.Needs.{needs}
 use mathlib.Core.Path.{refl}
 use Rattle.planwords.specs.Words.{planAt}
-use Rattle.queueing.specs.Leave.{state}
+use Rattle.retiring.specs.Leave.{state}
 use Rattle.ending.proofs.Ending.{link-out, end-done}
 use Rattle.ending.proofs.end_service.Statement.{statement}
 use Rattle.ending.proofs.end_service.Tie as tie

@@ -5,7 +5,7 @@ use Rattle.planwords.specs.Words.{planAt}
 use Rattle.network.specs.declared.management.Message.the-variants.{CBA, TFP, TFA}
 use Rattle.replies.specs.Areas.{Areas, areas}
 use Rattle.managing.specs.Managed.{managed}
-use Rattle.managing.proofs.Answering.{in-all}
+use Rattle.waiting.proofs.Answering.{in-all}
 use Rattle.managing.proofs.Managing.{as-variant, as-step}
 use Rattle.managing.proofs.manage.Statement.{statement}
 use Rattle.managing.proofs.manage.Tie as tie

@@ -6,10 +6,10 @@ use mathlib.Core.Path.{_≡_, refl, ap, _∙_}
 use Prim.Native.Nat.{ℕ}
 use lib.ListN.{length}
 use Rattle.planwords.specs.Words.{planAt}
-use Rattle.queueing.specs.Head.{repeat}
-use Rattle.queueing.specs.Leave.{state}
-use Rattle.queueing.proofs.Turns.{turn-done, turns-done}
-use Rattle.queueing.proofs.States.{all-whole, all-same}
+use Rattle.heads.specs.Head.{repeat}
+use Rattle.retiring.specs.Leave.{state}
+use Rattle.heads.proofs.Turns.{turn-done, turns-done}
+use Rattle.retiring.proofs.States.{all-whole, all-same}
 use Rattle.moving.specs.Move.{movedOne, movedAll}
 use Rattle.moving.proofs.move_all.Statement.{statement}
 use Rattle.moving.proofs.move_all.Tie as tie

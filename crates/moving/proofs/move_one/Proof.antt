@@ -4,8 +4,8 @@ use borrow.Author.Needs.{needs}
 use borrow.Author.Tests.{not-true, not-false}
 use mathlib.Core.Path.{refl}
 use Rattle.planwords.specs.Words.{planAt}
-use Rattle.queueing.specs.Leave.{state}
-use Rattle.queueing.proofs.States.{all-same}
+use Rattle.retiring.specs.Leave.{state}
+use Rattle.retiring.proofs.States.{all-same}
 use Rattle.moving.proofs.Moving.{none-moved, head-moved, head-dropped}
 use Rattle.moving.proofs.move_one.Statement.{statement}
 use Rattle.moving.proofs.move_one.Tie as tie

@@ -5,7 +5,7 @@ use mathlib.Core.Path.{ap, _∙_}
 use mathlib.Core.List.{List, [], _∷_, _++_}
 use Prim.Native.Nat.{ℕ}
 use Rattle.pages.specs.Page.{page, puts, ended}
-use Rattle.pages.specs.Reported.{allReported}
+use Rattle.reportlines.specs.Reported.{allReported}
 use Rattle.pages.proofs.Pages.{follow, last}
 use Rattle.showing.specs.declared.shows.Shows.{Shows}
 use Rattle.showing.specs.Reply.{replied, behind}

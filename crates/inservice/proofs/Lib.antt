@@ -1,0 +1,4 @@
+pub mod Carries
+pub mod OneSource
+pub mod Replying
+pub mod Stored

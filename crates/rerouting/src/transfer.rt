@@ -1,0 +1,42 @@
+// TFP and TFA carried out: the message is taken, a route's mark set or cleared, and the access that changed is told.
+use access::accesses;
+use access::report_changes;
+use marking::counts;
+use marking::mark;
+use numbers::take_message;
+use replies::Answer;
+use replies::done;
+use replies::plain;
+ghost use Rattle.planwords.specs.Words.{planOf};
+ghost use mathlib.Core.Path.{_≡_};
+ghost use Rattle.replies.specs.Areas.{areas, Leaves};
+ghost use Rattle.rerouting.specs.Transfer as Transfer;
+
+// A TFP, or a TFA, about X came over a link with a number.
+pub fn transfer(
+    plan: &[u16; 1024],
+    links: &mut [u32; 256],
+    marks: &mut [u32; 512],
+    spans: &[u16; 70],
+    rings: &[u8; 8960],
+    rows: &[u64; 2048],
+    arrivals: &[u64; 1],
+    arriving: u8,
+    fsn: u8,
+    point: u16,
+    x: u16,
+    prohibits: bool,
+    reports: &mut [u64],
+) -> Answer
+    ensures { λ r. ⌜ Leaves (Transfer.transferred (planOf plan) arriving fsn point x prohibits (areas (now (links .entry)) (now (marks .entry)) (now (spans .entry)) (now (rings .entry)) (now (rows .entry)) (now (arrivals .entry)) (now (reports .entry)))) r (areas (now (links .exit)) (now (marks .exit)) (now (spans .entry)) (now (rings .entry)) (now (rows .entry)) (now (arrivals .entry)) (now (reports .exit))) ⌝ }
+{
+    if !counts(plan, marks, point, x, prohibits) {
+        take_message(links, arriving, fsn);
+        return plain(11);
+    }
+    let before = accesses(plan, links, marks);
+    mark(plan, links, marks, point, x, prohibits);
+    let told = report_changes(plan, links, marks, before, reports, 0);
+    take_message(links, arriving, fsn);
+    done(told)
+}

@@ -1,0 +1,3 @@
+pub mod DestinationKept
+pub mod Faults
+pub mod Kept
