@@ -6,11 +6,12 @@ use Prim.Native.Nat.{ℕ, suc, _+_, _*_, _%_, _≤_, _<_}
 use native.Mathlib.Nat.{add-zero}
 use native.Mathlib.Omega.{arith}
 use lib.ListN.{length, getD, set, List·getD-eq-default, length-set}
-use lib.Seq.{sets, getD-set-same, getD-set-other}
+use lib.Seq.{sets, getD-set-same}
 use borrow.Author.Tests.{lt-ltb}
 use Rattle.plan.specs.declared.data.Plan.{Plan}
 use Rattle.plan.specs.Find.{given}
 use Rattle.plan.proofs.Split.{split}
+use Rattle.rows.proofs.Laws.{set-after}
 use Rattle.linkrecords.specs.declared.LinkRecord.{LinkRecord}
 use Rattle.flags.specs.Flags.{word}
 use Rattle.linkrecords.specs.LinkRecords.{recordAt, withRecord}
@@ -31,13 +32,7 @@ set-zero area at =
     split at (length area) (getD-set-same area at 0 0)
     (λ past. List·getD-eq-default (set area at 0) 0 (omega (arith, length-set area at 0)))
 
--- and words set behind it leave it
-set-behind : (words area : List ℕ) (at place : ℕ) → place < at → getD (sets area at words) place 0 ≡ getD area place 0
-set-behind [] area at place h = refl
-set-behind (first ∷ words) area at place h =
-    set-behind words (set area at first) (suc at) place (omega arith) ∙ getD-set-other area at place first 0 (λ e. omega arith)
-
--- so a record whose state is 0 says so
+-- so a record whose state is 0 says so: the words behind it leave it
 state-zero : (links : List ℕ) (link : ℕ) → link < 32 → (known : LinkRecord) → known .state ≡ 0
     → recordAt (withRecord links link known) link .state ≡ 0
 state-zero links link h known is =
@@ -45,7 +40,7 @@ state-zero links link h known is =
     known .acknowledged ∷ known .received ∷ known .sent ∷ known .timer ∷ word (known .t3) ∷ known .code ∷ []
     in
     let zero-there : getD (sets (set links (8 * link) 0) (suc (8 * link)) others) (8 * link) 0 ≡ 0 =
-    set-behind others (set links (8 * link) 0) (suc (8 * link)) (8 * link) (omega arith) ∙ set-zero links (8 * link)
+    set-after others (set links (8 * link) 0) (suc (8 * link)) (8 * link) (omega arith) ∙ set-zero links (8 * link)
     in
     simp (lt-ltb link 32 h, add-zero, is) (ap (λ (w : ℕ). w % 4) zero-there)
 

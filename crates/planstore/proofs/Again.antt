@@ -15,7 +15,8 @@ use Rattle.planwords.specs.Words.{table, octetIn, routeOf, routeIn, setIn, link
 use Rattle.planwords.proofs.Said.{table-at, table-length}
 use Rattle.planstore.specs.Layout.{flagWord, routeWord, nodeWords, setWords, linkWords, codeWords, routeWords, placed, wordsOf}
 use Rattle.planstore.specs.Fits.{Fits}
-use Rattle.planstore.proofs.Placed.{set-there, length-placed, placed-after, placed-there}
+use Rattle.rows.proofs.Laws.{set-there}
+use Rattle.planstore.proofs.Placed.{length-placed, placed-after, placed-there}
 
 -- a flag and a route are read back from their words
 flagged : (on : Bool) → ltb 0 (flagWord on) ≡ on

@@ -2,28 +2,13 @@
 use mathlib.Core.Path.{_≡_, refl, sym, ap, _∙_}
 use mathlib.Core.List.{List, [], _∷_}
 use Prim.Native.Nat.{ℕ, zero, suc, _+_, _*_, _≤_, _<_}
-use native.Mathlib.Nat.{add-zero, mul-zero, mul-suc}
+use native.Mathlib.Nat.{mul-zero, mul-suc}
 use native.Mathlib.Numerals.{add-one}
 use native.Mathlib.Omega.{arith}
-use lib.ListN.{length, getD, set, drop, length-set, drop-of-length-le}
-use lib.Seq.{sets, length-sets, drop-cons, getD-set-same, getD-set-other}
+use lib.ListN.{length, getD, set, drop, drop-of-length-le}
+use lib.Seq.{sets, length-sets, drop-cons}
+use Rattle.rows.proofs.Laws.{set-after, set-there}
 use Rattle.planstore.specs.Layout.{placed}
-
--- words before those that are set are as they were
-set-after : (words area : List ℕ) (at k : ℕ) → k < at → getD (sets area at words) k 0 ≡ getD area k 0
-set-after [] area at k h = refl
-set-after (word ∷ words) area at k h =
-    set-after words (set area at word) (suc at) k (omega arith) ∙ getD-set-other area at k word 0 (omega arith)
-
--- and those that are set stand in their places
-pub set-there : (words area : List ℕ) (at k : ℕ) → k < length words → at + k < length area → getD (sets area at words) (at + k) 0 ≡ getD words k 0
-set-there [] area at k h room = absurd (omega arith)
-set-there (word ∷ words) area at zero h room =
-    rw add-zero (set-after words (set area at word) (suc at) at (omega arith) ∙ getD-set-same area at word 0 (omega arith))
-set-there (word ∷ words) area at (suc k) h room =
-    let same : at + suc k ≡ suc at + k = omega arith in
-    let fits : suc at + k < length (set area at word) = simp length-set (omega arith) in
-    rw same (set-there words (set area at word) (suc at) k (omega arith) fits)
 
 -- a turn of the loop that sets words, and its end
 pub set-turn : (words area whole : List ℕ) (at i n word : ℕ) → length words ≡ n → i < n → word ≡ getD words i 0

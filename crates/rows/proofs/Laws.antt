@@ -15,7 +15,7 @@ use borrow.Table.Steps.{cases}
 use Rattle.rows.specs.Rows.{wordAt, withRow, withWord}
 
 -- words set from a place on leave what stands before them
-set-after : (words area : List ℕ) (at k : ℕ) → k < at → getD (sets area at words) k 0 ≡ getD area k 0
+pub set-after : (words area : List ℕ) (at k : ℕ) → k < at → getD (sets area at words) k 0 ≡ getD area k 0
 set-after [] area at k h = refl
 set-after (word ∷ words) area at k h =
     set-after words (set area at word) (suc at) k (omega arith) ∙ getD-set-other area at k word 0 (omega arith)
@@ -27,13 +27,13 @@ set-before (word ∷ words) area at k h =
     set-before words (set area at word) (suc at) k (omega arith) ∙ getD-set-other area at k word 0 (omega arith)
 
 -- and stand in their places
-set-there : (words area : List ℕ) (at k : ℕ) → k < length words → at + length words ≤ length area → getD (sets area at words) (at + k) 0 ≡ getD words k 0
+pub set-there : (words area : List ℕ) (at k : ℕ) → k < length words → at + k < length area → getD (sets area at words) (at + k) 0 ≡ getD words k 0
 set-there [] area at k h room = absurd (omega arith)
 set-there (word ∷ words) area at zero h room =
     rw add-zero (set-after words (set area at word) (suc at) at (omega arith) ∙ getD-set-same area at word 0 (omega arith))
 set-there (word ∷ words) area at (suc k) h room =
     let same : at + suc k ≡ suc at + k = omega arith in
-    let fits : suc at + length words ≤ length (set area at word) = simp length-set (omega arith) in
+    let fits : suc at + k < length (set area at word) = simp length-set (omega arith) in
     rw same (set-there words (set area at word) (suc at) k (omega arith) fits)
 
 -- a row ends where the next begins
@@ -60,7 +60,7 @@ module _ (rows stretch : ℕ) (area : List ℕ) (row : ℕ) (words : List ℕ) (
   pub row-same : row < rows → length area ≡ stretch * rows → (place : ℕ) → place < length words → wordAt rows stretch (withRow rows stretch area row words) row place ≡ getD words place 0
   row-same h size place k =
       let room : stretch * row + length words ≤ length area = omega (arith, row-before stretch row rows h) in
-      simp (lt-ltb row rows h) (set-there words area (stretch * row) place k room)
+      simp (lt-ltb row rows h) (set-there words area (stretch * row) place k (omega arith))
 
   other-words : (other : ℕ) → (other ≡ row → ⊥) → (place : ℕ) → place < stretch → getD (sets area (stretch * row) words) (stretch * other + place) 0 ≡ getD area (stretch * other + place) 0
   other-words other apart place k =
