@@ -1,7 +1,7 @@
 #!/usr/bin/env python3
 """Writes the configurations that the program `routes` is run on, and what it must write.
 
-  configurations.py   writes data/, args and stdout of crates/routes
+  configurations.py   writes data/, args and stdout of crates/program_routes
 
 What must be written stands here beside each text, from the paper's words and not from
 the program: a fault as (line, fault), an accepted text as its rows, each with the links
@@ -10,7 +10,7 @@ that SLS 0, 1, .. take in turn.
 
 from pathlib import Path
 
-CRATE = Path(__file__).resolve().parent.parent / "crates" / "routes"
+CRATE = Path(__file__).resolve().parent.parent / "crates" / "program_routes"
 NODE = "node 2 2\n"
 SETS = NODE + "set 0 1\nset 1 3\n"
 LINKS = SETS + "link 0 0 0\nlink 1 0 1\nlink 4 1 0\n"

@@ -12,7 +12,7 @@ use Rattle.counting.specs.Counting.{distance}
 use Rattle.counting.proofs.Laws.{in-range, distance-steps}
 use Rattle.plan.specs.declared.data.Plan.{Plan}
 use Rattle.replies.proofs.Rows.{none-applies}
-use Rattle.linkrecords.specs.LinkRecords.{recordAt}
+use Rattle.area_links.specs.LinkRecords.{recordAt}
 use Rattle.lookup.specs.Lookup.{isLink}
 use Rattle.numbers.specs.Numbers.{upTo, leftSent}
 use Rattle.acknowledging.specs.Acknowledge.{outOfRange, isOpen, bInRange}

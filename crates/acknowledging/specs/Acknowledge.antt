@@ -1,39 +1,43 @@
 -- "Acknowledgement (open): B is in range if it is the last acknowledged number, or that of a sent unacknowledged message. Messages
--- up to B are retired."
+-- up to B are retired." (R107, R108, R109)
 use Prim.Native.Nat.{ℕ}
 use mathlib.Core.Bool.{Bool, not, _||_}
 use mathlib.Core.List.{List, [], _∷_}
 use lib.Dec.{eqb, leb}
+use Rattle.constants.specs.Constants.{linkCount, stateOpen}
 use Rattle.plan.specs.declared.data.Plan.{Plan}
 use Rattle.counting.specs.Counting.{inRange}
-use Rattle.linkrecords.specs.LinkRecords.{recordAt, withAcknowledged, withSent}
-use Rattle.replies.specs.Reply.{row, first, ifDone}
+use Rattle.area_numbers.specs.LinkWords.{withAcknowledged, withSent}
+use Rattle.area_links.specs.LinkRecords.{recordAt}
+use Rattle.replies.specs.Reply.{Row, row, first, ifDone}
 use Rattle.lookup.specs.Lookup.{isLink}
-use Rattle.heads.specs.Head.{Queues}
-use Rattle.retiring.specs.Leave.{retired}
+use Rattle.queue_heads.specs.Head.{Queues}
+use Rattle.queue_retiring.specs.Leave.{retired}
 use Rattle.numbers.specs.Numbers.{upTo, leftSent}
 
--- "an argument out of range"
+-- "an argument out of range" (R16, R42)
 abbrev pub outOfRange : ℕ → ℕ → Bool
-outOfRange link b = leb 32 link || leb 128 b
+outOfRange link b = leb linkCount link || leb 128 b
 
 -- whether the event fits the link's state
 abbrev pub isOpen : List ℕ → ℕ → Bool
-isOpen links link = eqb (recordAt links link .state) 2
+isOpen links link = eqb (recordAt links link .state) stateOpen
 
--- "B is in range"
+-- "B is in range" (R47, R108)
 abbrev pub bInRange : List ℕ → ℕ → ℕ → Bool
 bInRange links link b = inRange 128 (recordAt links link .acknowledged) (recordAt links link .sent) b
 
--- the reply: 1, 2, 5 on a link that isn't open, 6 for a number that isn't in range
-unfoldable pub replyOf : Plan → List ℕ → ℕ → ℕ → ℕ
-replyOf plan links link b =
-    first
-    (row 1 (outOfRange link b)
+-- the reply: 1, 2, 5 on a link that isn't open, 6 for a number that isn't in range (R47, R107)
+abbrev pub refusalsOf : Plan → List ℕ → ℕ → ℕ → List Row
+refusalsOf plan links link b =
+    row 1 (outOfRange link b)
     ∷ row 2 (not (isLink plan link))
     ∷ row 5 (not (isOpen links link))
     ∷ row 6 (not (bInRange links link b))
-    ∷ [])
+    ∷ []
+
+unfoldable pub replyOf : Plan → List ℕ → ℕ → ℕ → ℕ
+replyOf plan links link b = first (refusalsOf plan links link b)
 
 -- the links after it: b is the last acknowledged, and the sent ones behind it are left
 unfoldable pub linksAfter : Plan → List ℕ → ℕ → ℕ → List ℕ

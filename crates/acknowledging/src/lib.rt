@@ -1,22 +1,25 @@
 // Acknowledgement: the messages up to a number are retired.
+use area_links::load_link;
+use area_numbers::store_acknowledged;
+use area_numbers::store_sent;
+use constants::LINKS;
+use constants::OPEN;
 use counting::distance;
 use counting::in_range;
-use linkrecords::load_link;
-use linkrecords::store_acknowledged;
-use linkrecords::store_sent;
 use lookup::is_link;
 use numbers::left_sent;
-use retiring::retire;
-ghost use Rattle.planwords.specs.Words.{planOf};
+use queue_retiring::retire;
+ghost use Rattle.plan_words.specs.Words.{planOf};
 ghost use mathlib.Core.Path.{_≡_};
-ghost use Rattle.heads.specs.Head.{both};
+ghost use Rattle.replies.specs.Areas.{old, new};
+ghost use Rattle.queue_heads.specs.Head.{queuesBefore, queuesAfter};
 ghost use Rattle.acknowledging.specs.Acknowledge as Acknowledge;
 
 // The reply.
 fn acknowledge_reply(plan: &[u16; 1024], links: &[u32; 256], link: u8, b: u8) -> u8
-    ensures { λ r. ⌜ r ≡ Acknowledge.replyOf (planOf plan) (now (links .entry)) link b ⌝ }
+    ensures { λ r. ⌜ r ≡ Acknowledge.replyOf (planOf plan) (old links) link b ⌝ }
 {
-    if 32 <= link {
+    if LINKS <= link {
         return 1;
     }
     if 128 <= b {
@@ -26,7 +29,7 @@ fn acknowledge_reply(plan: &[u16; 1024], links: &[u32; 256], link: u8, b: u8) ->
         return 2;
     }
     let known = load_link(links, link);
-    if known.state != 2 {
+    if known.state != OPEN {
         return 5;
     }
     if !in_range(known.acknowledged, known.sent, b) {
@@ -44,10 +47,9 @@ pub fn acknowledge(
     link: u8,
     b: u8,
 ) -> u8
-    ensures { λ r. ⌜ r ≡ Acknowledge.replyOf (planOf plan) (now (links .entry)) link b ⌝ }
-    ensures { λ r. ⌜ now (links .exit) ≡ Acknowledge.linksAfter (planOf plan) (now (links .entry)) link b ⌝ }
-    ensures { λ r. ⌜ now (spans .exit) ≡ Acknowledge.queuesAfter (planOf plan) (now (links .entry)) (both (now (spans .entry)) (now (rings .entry))) link b .spans ⌝ }
-    ensures { λ r. ⌜ now (rings .exit) ≡ Acknowledge.queuesAfter (planOf plan) (now (links .entry)) (both (now (spans .entry)) (now (rings .entry))) link b .rings ⌝ }
+    ensures { λ r. ⌜ r ≡ Acknowledge.replyOf (planOf plan) (old links) link b ⌝ }
+    ensures { λ r. ⌜ new links ≡ Acknowledge.linksAfter (planOf plan) (old links) link b ⌝ }
+    ensures { λ r. ⌜ queuesAfter spans rings ≡ Acknowledge.queuesAfter (planOf plan) (old links) (queuesBefore spans rings) link b ⌝ }
 {
     let reply = acknowledge_reply(plan, links, link, b);
     if 0 < reply {

@@ -1,6 +1,6 @@
 -- What the sending of a CBD leaves: all as it was where none is to be sent or it finds no place or number, and the CBD at the end
 -- of its queue where it does. Assumes nothing.
-use mathlib.Core.Path.{_≡_}
+use mathlib.Core.Path.{_≡_, _∙_}
 use mathlib.Core.Bool.{false}
 use mathlib.Core.List.{List}
 use Prim.Native.Nat.{ℕ, _≤_, _<_}
@@ -8,29 +8,26 @@ use lib.Dec.{eqb}
 use borrow.Author.Tests.{lt-ltb, le-ltb}
 use borrow.Table.Steps.{cases}
 use Rattle.plan.specs.declared.data.Plan.{Plan}
-use Rattle.routing.specs.Which.{none}
+use Rattle.route_choice.specs.Which.{none}
 use Rattle.lookup.specs.Lookup.{slcOf, adjacentOf}
-use Rattle.queueing.specs.Queue.{managementReply}
-use Rattle.queueing.proofs.Queued.{ManagementLeaves}
-use Rattle.making.specs.Make.{Held, held}
-use Rattle.making.proofs.Making.{lacking-kept}
-use Rattle.pairs.specs.declared.Sources.{Sources}
-use Rattle.inservice.specs.InService.{declares}
+use Rattle.queue_joining.specs.Queue.{managementReply}
+use Rattle.queue_joining.proofs.Queued.{ManagementLeaves, management-kept}
+use Rattle.management_making.specs.Make.{Held, held}
+use Rattle.changeback_pairs.specs.declared.Sources.{Sources}
+use Rattle.changeback_service.specs.InService.{declares}
 use Rattle.changeback.specs.Service.{declareReply, declared}
 
 module _ (plan : Plan) (link : ℕ) (from : Sources) (spans rings rows arrivals : List ℕ) where
   -- the reply and the areas are those that it leaves, in the order of the contract
   abbrev pub DeclareLeaves : ℕ → List ℕ → List ℕ → List ℕ → List ℕ → Type 0
   DeclareLeaves reply spans′ rings′ rows′ arrivals′ =
-      let after = declared plan link from (held spans rings rows arrivals) in
       (reply ≡ declareReply spans arrivals from)
-      × ((spans′ ≡ after .queues .spans)
-      × ((rings′ ≡ after .queues .rings) × ((rows′ ≡ after .rows) × (arrivals′ ≡ after .arrivals))))
+      × (held spans′ rings′ rows′ arrivals′ ≡ declared plan link from (held spans rings rows arrivals))
 
   -- no pair comes from a link of its own set
   pub not-declared : none ≤ from .own → DeclareLeaves 0 spans rings rows arrivals
   unfolding declareReply declared
-  not-declared h = let no = le-ltb (from .own) none h in (simp no, (simp no, (simp no, (simp no, simp no))))
+  not-declared h = let no = le-ltb (from .own) none h in (simp no, simp no)
 
   -- some do, from one
   pub is-declared : from .own < none → (point slc reply : ℕ) (spans′ rings′ rows′ arrivals′ : List ℕ)
@@ -39,10 +36,7 @@ module _ (plan : Plan) (link : ℕ) (from : Sources) (spans rings rows arrivals 
       → DeclareLeaves reply spans′ rings′ rows′ arrivals′
   unfolding declareReply declared
   is-declared h point slc reply spans′ rings′ rows′ arrivals′ at coded e =
-      let yes = lt-ltb (from .own) none h in (
-        simp (yes, e .0),
-        (simp (yes, e .1 .0), (simp (yes, e .1 .1 .0), (simp (yes, e .1 .1 .1 .0, at, coded), simp (yes, e .1 .1 .1 .1)))),
-      )
+      let yes = lt-ltb (from .own) none h in (simp (yes, e .0), e .1 ∙ simp (yes, at, coded))
 
 -- a reply that isn't 0 means that nothing was queued
 pub declared-kept : (plan : Plan) (link : ℕ) (from : Sources) (now : Held)
@@ -53,6 +47,5 @@ declared-kept plan link from now refused =
     (λ e.
     let lacks : eqb (managementReply (now .queues .spans) (now .arrivals)) 0 ≡ false = simp e at refused in
     simp e
-    (lacking-kept (now .queues) (now .rows) (now .arrivals) (from .own) 0x51 (adjacentOf plan link) (slcOf plan link) (from .own)
-    lacks))
+    (management-kept (from .own) 0x51 (adjacentOf plan link) (slcOf plan link) (from .own) now lacks))
     (λ e. simp e)

@@ -9,20 +9,20 @@ use lib.Dec.{eqb}
 use lib.ListN.{getD}
 use borrow.Author.Tests.{eq-eqb, ne-eqb}
 use Rattle.plan.specs.declared.data.Plan.{Plan}
-use Rattle.linkrecords.specs.declared.LinkRecord.{LinkRecord}
-use Rattle.linkrecords.specs.LinkRecords.{withRecord}
+use Rattle.area_links.specs.declared.LinkRecord.{LinkRecord}
+use Rattle.area_links.specs.LinkRecords.{withRecord}
 use Rattle.replies.specs.declared.Answer.{Answer}
 use Rattle.replies.specs.Reply.{plain, done, ifDone}
 use Rattle.replies.specs.Areas.{Areas, areas, Outcome, outcome, Leaves}
 use Rattle.replies.proofs.Judging.{is-refused, is-done}
 use Rattle.replies.proofs.Leaving.{leaves}
 use Rattle.reports.specs.Report.{Log, log}
-use Rattle.access.specs.Change.{accessesOf, isAccessible, changesTold}
-use Rattle.access.proofs.Filled.{says-each}
-use Rattle.access.proofs.Same.{told-same}
-use Rattle.making.specs.Make.{Held, held, heldIn}
-use Rattle.pairs.specs.declared.Sources.{Sources}
-use Rattle.inservice.specs.InService.{comesAs, sourcesIn, linksIn, replyFirst}
+use Rattle.route_access.specs.Change.{accessesOf, isAccessible, changesTold}
+use Rattle.route_access.proofs.Filled.{says-each}
+use Rattle.route_access.proofs.Same.{told-same}
+use Rattle.management_making.specs.Make.{Held, held, heldIn}
+use Rattle.changeback_pairs.specs.declared.Sources.{Sources}
+use Rattle.changeback_service.specs.InService.{comesAs, sourcesIn, linksIn, replyFirst}
 use Rattle.changeback.specs.Service.{declareReply, replyOf, declared, resumed, intoService}
 use Rattle.changeback.proofs.Declaring.{DeclareLeaves, declared-kept}
 
@@ -55,7 +55,7 @@ module _ (plan : Plan) (a : Areas) (link : ℕ) where
 
       -- what is held then
       now-held : held spans rings rows arrivals ≡ declared plan link from (heldIn a)
-      now-held = simp (left .1 .0, left .1 .1 .0, left .1 .1 .1 .0, left .1 .1 .1 .1)
+      now-held = left .1
 
       -- refused because the CBD finds no place or number
       pub refused-lacking : (answer : Answer) → 0 < lacking → answer ≡ plain lacking

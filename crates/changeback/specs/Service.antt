@@ -1,4 +1,4 @@
--- "Into service (from out)".
+-- "Into service (from out)" (R89).
 use Prim.Native.Nat.{ℕ}
 use mathlib.Core.Bool.{cond}
 use mathlib.Core.List.{List}
@@ -6,12 +6,12 @@ use Rattle.plan.specs.declared.data.Plan.{Plan}
 use Rattle.replies.specs.Reply.{done, ifDone}
 use Rattle.replies.specs.Areas.{Areas, areas, Outcome, outcome, judged}
 use Rattle.reports.specs.Report.{Log, log}
-use Rattle.access.specs.Change.{isAccessible, changesTold}
+use Rattle.route_access.specs.Change.{isAccessible, changesTold}
 use Rattle.lookup.specs.Lookup.{slcOf, adjacentOf}
-use Rattle.queueing.specs.Queue.{managementReply, managementQueues, managementRow, managementArrivals}
-use Rattle.making.specs.Make.{Held, heldIn}
-use Rattle.pairs.specs.declared.Sources.{Sources}
-use Rattle.inservice.specs.InService.{declares, sourcesIn, linksIn, replyFirst}
+use Rattle.queue_joining.specs.Queue.{managementReply, withManagement}
+use Rattle.management_making.specs.Make.{Held, heldIn}
+use Rattle.changeback_pairs.specs.declared.Sources.{Sources}
+use Rattle.changeback_service.specs.InService.{declares, sourcesIn, linksIn, replyFirst}
 
 -- 8 and 10 where its CBD finds no place or number
 unfoldable pub declareReply : List ℕ → List ℕ → Sources → ℕ
@@ -24,16 +24,10 @@ replyOf plan a link =
     (declareReply (a .spans) (a .arrivals) (sourcesIn plan (a .links) (a .marks) link))
     (replyFirst plan (a .links) link (a .reports))
 
--- "a CBD is put at the end of M's queue, the code being M's link number"
+-- "a CBD is put at the end of M's queue, the code being M's link number" (R93, R94, R118)
 unfoldable pub declared : Plan → ℕ → Sources → Held → Held
 declared plan link from now =
-    cond (declares from)
-    (record {
-      queues = managementQueues (now .queues) (now .arrivals) (from .own);
-      rows = managementRow (now .queues) (now .arrivals) (now .rows) 0x51 (adjacentOf plan link) (slcOf plan link) (from .own);
-      arrivals = managementArrivals (now .queues .spans) (now .arrivals);
-    })
-    now
+    cond (declares from) (withManagement (from .own) 0x51 (adjacentOf plan link) (slcOf plan link) (from .own) now) now
 
 -- a resume for each destination that has access now
 unfoldable pub resumed : Plan → Areas → ℕ → Log

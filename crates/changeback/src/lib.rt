@@ -1,21 +1,22 @@
 // Changeback: a link comes into service, with a CBD where its own set has carried its traffic.
-use access::accesses;
-use access::report_changes;
-use inservice::comes_as;
-use inservice::service_reply;
-use inservice::sources_in;
-use linkrecords::store_link;
+use area_links::store_link;
+use changeback_pairs::Sources;
+use changeback_service::comes_as;
+use changeback_service::service_reply;
+use changeback_service::sources_in;
+use constants::NO_LINK;
 use lookup::adjacent_of;
 use lookup::slc_of;
-use pairs::Sources;
-use queueing::queue_management;
+use queue_joining::queue_management;
 use replies::Answer;
 use replies::done;
 use replies::plain;
-ghost use Rattle.planwords.specs.Words.{planOf};
+use route_access::accesses;
+use route_access::report_changes;
+ghost use Rattle.plan_words.specs.Words.{planOf};
 ghost use mathlib.Core.Path.{_≡_};
-ghost use Rattle.replies.specs.Areas.{areas, Leaves};
-ghost use Rattle.making.specs.Make.{held};
+ghost use Rattle.replies.specs.Areas.{old, Leaves, before, after};
+ghost use Rattle.queue_joining.specs.Queue.{heldBefore, heldAfter};
 ghost use Rattle.changeback.specs.Service as Service;
 
 // The CBD, where one is to be sent: 0, or 8 or 10.
@@ -28,14 +29,12 @@ fn declare(
     link: u8,
     from: Sources,
 ) -> u8
-    ensures { λ r. ⌜ r ≡ Service.declareReply (now (spans .entry)) (now (arrivals .entry)) from ⌝ }
-    ensures { λ r. ⌜ now (spans .exit) ≡ Service.declared (planOf plan) link from (held (now (spans .entry)) (now (rings .entry)) (now (rows .entry)) (now (arrivals .entry))) .queues .spans ⌝ }
-    ensures { λ r. ⌜ now (rings .exit) ≡ Service.declared (planOf plan) link from (held (now (spans .entry)) (now (rings .entry)) (now (rows .entry)) (now (arrivals .entry))) .queues .rings ⌝ }
-    ensures { λ r. ⌜ now (rows .exit) ≡ Service.declared (planOf plan) link from (held (now (spans .entry)) (now (rings .entry)) (now (rows .entry)) (now (arrivals .entry))) .rows ⌝ }
-    ensures { λ r. ⌜ now (arrivals .exit) ≡ Service.declared (planOf plan) link from (held (now (spans .entry)) (now (rings .entry)) (now (rows .entry)) (now (arrivals .entry))) .arrivals ⌝ }
+    ensures { λ r. ⌜ r ≡ Service.declareReply (old spans) (old arrivals) from ⌝ }
+    ensures { λ r. ⌜ heldAfter spans rings rows arrivals ≡
+        Service.declared (planOf plan) link from (heldBefore spans rings rows arrivals) ⌝ }
 {
     let own = from.own;
-    if 32 <= own {
+    if NO_LINK <= own {
         return 0;
     }
     queue_management(
@@ -63,7 +62,8 @@ pub fn into_service(
     link: u8,
     reports: &mut [u64],
 ) -> Answer
-    ensures { λ r. ⌜ Leaves (Service.intoService (planOf plan) (areas (now (links .entry)) (now (marks .entry)) (now (spans .entry)) (now (rings .entry)) (now (rows .entry)) (now (arrivals .entry)) (now (reports .entry))) link) r (areas (now (links .exit)) (now (marks .entry)) (now (spans .exit)) (now (rings .exit)) (now (rows .exit)) (now (arrivals .exit)) (now (reports .exit))) ⌝ }
+    ensures { λ r. ⌜ Leaves (Service.intoService (planOf plan) (before links marks spans rings rows arrivals reports) link) r
+        (after links marks spans rings rows arrivals reports) ⌝ }
 {
     let reply = service_reply(plan, links, link, reports);
     if 0 < reply {

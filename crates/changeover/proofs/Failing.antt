@@ -7,34 +7,30 @@ use Prim.Native.Nat.{ℕ, _≤_, _<_}
 use lib.Dec.{eqb}
 use borrow.Author.Tests.{eq-eqb, ne-eqb}
 use Rattle.plan.specs.declared.data.Plan.{Plan}
-use Rattle.linkrecords.specs.declared.LinkRecord.{LinkRecord}
-use Rattle.linkrecords.specs.LinkRecords.{recordAt, withRecord}
+use Rattle.area_links.specs.declared.LinkRecord.{LinkRecord}
+use Rattle.area_links.specs.LinkRecords.{recordAt, withRecord}
 use Rattle.replies.specs.declared.Answer.{Answer}
 use Rattle.replies.specs.Reply.{plain, done}
 use Rattle.replies.specs.Areas.{Areas, areas, Outcome, outcome, Leaves}
 use Rattle.replies.proofs.Leaving.{leaves}
-use Rattle.making.specs.declared.Draft.{Draft}
-use Rattle.making.specs.declared.Made.{Made}
-use Rattle.making.specs.Make.{Held, held, heldIn, made, isMade}
-use Rattle.making.proofs.Making.{MakeLeaves}
-use Rattle.ending.specs.declared.Cut.{Cut}
-use Rattle.ending.specs.End.{cutNone, outOfService}
-use Rattle.failure.specs.Failure.{stateAt, replyOf, orderOf, changing, timerBy}
+use Rattle.management_making.specs.declared.Draft.{Draft}
+use Rattle.management_making.specs.declared.Made.{Made}
+use Rattle.management_making.specs.Make.{Held, held, heldIn, made, isMade}
+use Rattle.management_making.proofs.Making.{MakeLeaves}
+use Rattle.changeover_cuts.specs.declared.Cut.{Cut}
+use Rattle.changeover_cuts.specs.Cuts.{cutNone}
+use Rattle.changeover_ending.specs.End.{outOfService}
+use Rattle.changeover_failure.specs.Failure.{stateAt, replyOf, orderOf, changing, timerBy}
 use Rattle.changeover.specs.Fail.{timerOf, openFailed, failed}
 use Rattle.replies.proofs.Judging.{leaves-refused, leaves-done, whole}
-use Rattle.ending.proofs.Ended.{EndLeaves, out-whole}
+use Rattle.changeover_ending.proofs.Ended.{EndLeaves, out-whole}
 
 module _ (plan : Plan) (a : Areas) (link : ℕ) where
   -- the COO was made, or not, and the record read is stored as that of a changing link
   module _ (order : Draft) (says : order ≡ orderOf plan (a .links) link) (sent : Made) (spans rings rows arrivals : List ℕ)
       (left : MakeLeaves plan (a .links) (a .marks) order (a .spans) (a .rings) (a .rows) (a .arrivals) sent spans rings rows arrivals) where
     now-held : held spans rings rows arrivals ≡ made plan (a .links) (a .marks) (orderOf plan (a .links) link) (heldIn a)
-    now-held =
-        let parts : held spans rings rows arrivals ≡ made plan (a .links) (a .marks) order (heldIn a) =
-        simp (left .1 .0, left .1 .1 .0, left .1 .1 .1 .0, left .1 .1 .1 .1)
-        in
-        parts
-        ∙ ap (λ (d : Draft). made plan (a .links) (a .marks) d (heldIn a)) says
+    now-held = left .1 ∙ ap (λ (d : Draft). made plan (a .links) (a .marks) d (heldIn a)) says
 
     -- T2 with a COO, else T1
     timer-is : timerBy (sent .made) ≡ timerOf plan a link

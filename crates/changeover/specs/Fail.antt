@@ -1,15 +1,16 @@
--- "Failure of an open link: changing; a COO and T2, or T1 with no path, free place or number." "Failure of a waiting link: out, its
--- timers stop, its queue moves at once."
+-- "Failure of an open link: changing; a COO and T2, or T1 with no path, free place or number." (R110, R111) "Failure of a waiting link: out, its
+-- timers stop, its queue moves at once." (R115, R116)
 use Prim.Native.Nat.{ℕ}
 use mathlib.Core.Bool.{cond}
 use lib.Dec.{eqb}
 use Rattle.plan.specs.declared.data.Plan.{Plan}
-use Rattle.linkrecords.specs.LinkRecords.{recordAt, withRecord}
+use Rattle.area_links.specs.LinkRecords.{recordAt, withRecord}
 use Rattle.replies.specs.Reply.{done}
 use Rattle.replies.specs.Areas.{Areas, Outcome, outcome, judged, withLinks}
-use Rattle.making.specs.Make.{isMade, withMade}
-use Rattle.ending.specs.End.{cutNone, outOfService}
-use Rattle.failure.specs.Failure.{stateAt, replyOf, orderOf, changing, timerBy}
+use Rattle.management_making.specs.Make.{isMade, withMade}
+use Rattle.changeover_cuts.specs.Cuts.{cutNone}
+use Rattle.changeover_ending.specs.End.{outOfService}
+use Rattle.changeover_failure.specs.Failure.{stateAt, replyOf, orderOf, changing, timerBy}
 
 -- T2 with a COO, else T1
 unfoldable pub timerOf : Plan → Areas → ℕ → ℕ

@@ -1,18 +1,19 @@
 // Changeover: a link fails.
-use ending::cut_none;
-use ending::end_service;
-use failure::changing;
-use failure::fail_reply;
-use failure::order_of;
-use linkrecords::load_link;
-use linkrecords::store_link;
-use making::make;
+use area_links::load_link;
+use area_links::store_link;
+use changeover_cuts::cut_none;
+use changeover_ending::end_service;
+use changeover_failure::changing;
+use changeover_failure::fail_reply;
+use changeover_failure::order_of;
+use constants::WAITING;
+use management_making::make;
 use replies::Answer;
 use replies::done;
 use replies::plain;
-ghost use Rattle.planwords.specs.Words.{planOf};
+ghost use Rattle.plan_words.specs.Words.{planOf};
 ghost use mathlib.Core.Path.{_≡_};
-ghost use Rattle.replies.specs.Areas.{areas, Leaves};
+ghost use Rattle.replies.specs.Areas.{Leaves, before, after};
 ghost use Rattle.changeover.specs.Fail as Fail;
 
 // An open link fails: a COO and T2, or T1.
@@ -27,7 +28,8 @@ fn fail_open(
     link: u8,
     reports: &[u64],
 ) -> Answer
-    ensures { λ r. ⌜ Leaves (Fail.openFailed (planOf plan) (areas (now (links .entry)) (now (marks .entry)) (now (spans .entry)) (now (rings .entry)) (now (rows .entry)) (now (arrivals .entry)) (now (reports .entry))) link) r (areas (now (links .exit)) (now (marks .entry)) (now (spans .exit)) (now (rings .exit)) (now (rows .exit)) (now (arrivals .exit)) (now (reports .entry))) ⌝ }
+    ensures { λ r. ⌜ Leaves (Fail.openFailed (planOf plan) (before links marks spans rings rows arrivals reports) link) r
+        (after links marks spans rings rows arrivals reports) ⌝ }
 {
     let order = order_of(plan, links, link);
     let sent = make(plan, links, marks, spans, rings, rows, arrivals, order);
@@ -48,14 +50,15 @@ pub fn fail(
     link: u8,
     reports: &mut [u64],
 ) -> Answer
-    ensures { λ r. ⌜ Leaves (Fail.failed (planOf plan) (areas (now (links .entry)) (now (marks .entry)) (now (spans .entry)) (now (rings .entry)) (now (rows .entry)) (now (arrivals .entry)) (now (reports .entry))) link) r (areas (now (links .exit)) (now (marks .entry)) (now (spans .exit)) (now (rings .exit)) (now (rows .exit)) (now (arrivals .exit)) (now (reports .exit))) ⌝ }
+    ensures { λ r. ⌜ Leaves (Fail.failed (planOf plan) (before links marks spans rings rows arrivals reports) link) r
+        (after links marks spans rings rows arrivals reports) ⌝ }
 {
     let reply = fail_reply(plan, links, link, reports);
     if 0 < reply {
         return plain(reply);
     }
     let known = load_link(links, link);
-    if known.state == 1 {
+    if known.state == WAITING {
         return done(end_service(
             plan,
             links,

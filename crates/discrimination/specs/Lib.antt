@@ -1,1 +1,2 @@
 pub mod Discrimination
+pub mod Sorted

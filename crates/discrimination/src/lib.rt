@@ -1,14 +1,14 @@
 // Discrimination: what a message is to this node, before any state is looked at.
-use network::management::Message;
-use network::management::MessageRead;
-use network::management::read_message;
-use planwords::read::code;
-use planwords::read::ni;
+use plan_words::read::code;
+use plan_words::read::ni;
 use wire::header::Header;
 use wire::header::HeaderRead;
 use wire::header::Label;
 use wire::header::read_header;
-ghost use Rattle.planwords.specs.Words.{planOf};
+use wire_messages::management::Message;
+use wire_messages::management::MessageRead;
+use wire_messages::management::read_message;
+ghost use Rattle.plan_words.specs.Words.{planOf};
 ghost use mathlib.Core.Path.{_≡_};
 ghost use Rattle.discrimination.specs.Discrimination as Discrimination;
 

@@ -15,7 +15,8 @@ use Rattle.plan.specs.declared.data.Link.{Link}
 use Rattle.plan.specs.declared.data.Route.{Route}
 use Rattle.plan.specs.Data as Data
 use Rattle.plan.proofs.Split.{split}
-use Rattle.lookup.specs.Lookup.{noSet, noLink, noRank, setFrom, linkWith, rankFrom, allOf}
+use Rattle.constants.specs.Constants.{noLink}
+use Rattle.lookup.specs.Lookup.{noSet, noRank, setFrom, linkWith, rankFrom, allOf}
 
 -- what a search yields from each of n places on: the value at the first that passes, and behind the last none
 pub record Walk (test : ℕ → Bool) (value : ℕ → ℕ) (none n : ℕ) (left : ℕ → ℕ) : Type 0 where

@@ -1,9 +1,10 @@
--- What messages and calls name: "A link is named by the message's OPC, as adjacent point, and its SLC".
+-- What messages and calls name: "A link is named by the message's OPC, as adjacent point, and its SLC" (R117).
 use Prim.Native.Nat.{ℕ, zero, suc, _+_}
 use mathlib.Core.Bool.{Bool, false, cond, _&&_}
 use mathlib.Core.List.{List, [], _∷_}
 use lib.Dec.{ltb, eqb}
 use lib.ListN.{take}
+use Rattle.constants.specs.Constants.{linkCount, noLink}
 use Rattle.plan.specs.declared.data.Plan.{Plan}
 use Rattle.plan.specs.declared.data.LinkSet.{LinkSet}
 use Rattle.plan.specs.declared.data.Route.{Route}
@@ -12,9 +13,6 @@ use Rattle.plan.specs.Data.{setAt, linkAt, routesOf}
 -- no set, no link, no rank
 abbrev pub noSet : ℕ
 noSet = 8
-
-abbrev pub noLink : ℕ
-noLink = 32
 
 abbrev pub noRank : ℕ
 noRank = 4
@@ -37,7 +35,7 @@ allOf those = take (those .count) (those .links)
 unfoldable pub linkWith : Plan → ℕ → List ℕ → ℕ
 linkWith plan slc [] = noLink
 linkWith plan slc (link ∷ rest) =
-    cond (ltb link 32 && eqb (linkAt plan link .slc) slc) link (linkWith plan slc rest)
+    cond (ltb link linkCount && eqb (linkAt plan link .slc) slc) link (linkWith plan slc rest)
 
 -- the link that a message names
 unfoldable pub linkNamed : Plan → ℕ → ℕ → ℕ
@@ -49,23 +47,23 @@ unfoldable pub rankFrom : ℕ → ℕ → List Route → ℕ
 rankFrom set rank [] = noRank
 rankFrom set rank (route ∷ worse) = cond (route .given && eqb (route .set) set) rank (rankFrom set (rank + 1) worse)
 
--- "the route to X by Y's set"
+-- "the route to X by Y's set" (R140)
 unfoldable pub rankBy : Plan → ℕ → ℕ → ℕ
 rankBy plan destination set = cond (ltb destination 64) (rankFrom set 0 (routesOf plan destination)) noRank
 
--- whether a link, or a set, "named by the host" is configured; without a node none is
+-- whether a link, or a set, "named by the host" (R44) is configured; without a node none is
 unfoldable pub isLink : Plan → ℕ → Bool
-isLink plan link = plan .given && (ltb link 32 && linkAt plan link .given)
+isLink plan link = plan .given && (ltb link linkCount && linkAt plan link .given)
 
 unfoldable pub isSet : Plan → ℕ → Bool
 isSet plan set = plan .given && (ltb set 8 && setAt plan set .given)
 
 -- a link's set, SLC and adjacent point
 unfoldable pub setOf : Plan → ℕ → ℕ
-setOf plan link = cond (ltb link 32) (linkAt plan link .set) noSet
+setOf plan link = cond (ltb link linkCount) (linkAt plan link .set) noSet
 
 unfoldable pub slcOf : Plan → ℕ → ℕ
-slcOf plan link = cond (ltb link 32) (linkAt plan link .slc) 0
+slcOf plan link = cond (ltb link linkCount) (linkAt plan link .slc) 0
 
 unfoldable pub adjacentOf : Plan → ℕ → ℕ
 adjacentOf plan link = cond (ltb (setOf plan link) 8) (setAt plan (setOf plan link) .adjacent) 0

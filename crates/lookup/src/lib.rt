@@ -1,17 +1,19 @@
 // What messages and calls name: a link by its adjacent point and SLC, a route by its destination and set, a link by its number.
+use constants::LINKS;
+use constants::NO_LINK;
 use plan::data::Route;
-use planwords::read::destination_routes;
-use planwords::read::given;
-use planwords::read::link_given;
-use planwords::read::link_set;
-use planwords::read::link_slc;
-use planwords::read::set_adjacent;
-use planwords::read::set_count;
-use planwords::read::set_given;
-use planwords::read::set_link;
+use plan_words::read::destination_routes;
+use plan_words::read::given;
+use plan_words::read::link_given;
+use plan_words::read::link_set;
+use plan_words::read::link_slc;
+use plan_words::read::set_adjacent;
+use plan_words::read::set_count;
+use plan_words::read::set_given;
+use plan_words::read::set_link;
 ghost use mathlib.Core.Path.{_≡_};
 ghost use Rattle.plan.specs.Data.{setAt};
-ghost use Rattle.planwords.specs.Words.{planOf};
+ghost use Rattle.plan_words.specs.Words.{planOf};
 ghost use Rattle.lookup.specs.Lookup as Lookup;
 
 // The set to an adjacent point, 8 where there is none.
@@ -37,14 +39,14 @@ fn link_with(plan: &[u16; 1024], set: u8, slc: u8) -> u8
     let mut i = 0u8;
     while i < m {
         let link = set_link(plan, set, i);
-        if link < 32 {
+        if link < NO_LINK {
             if link_slc(plan, link) == slc {
                 return link;
             }
         }
         i += 1;
     }
-    32
+    NO_LINK
 }
 
 // The link that a message names by its OPC and SLC, 32 where there is none.
@@ -53,7 +55,7 @@ pub fn link_named(plan: &[u16; 1024], point: u16, slc: u8) -> u8
 {
     let set = set_to(plan, point);
     if 8 <= set {
-        return 32;
+        return NO_LINK;
     }
     link_with(plan, set, slc)
 }
@@ -90,7 +92,7 @@ pub fn is_link(plan: &[u16; 1024], link: u8) -> bool
     if !given(plan) {
         return false;
     }
-    if 32 <= link {
+    if LINKS <= link {
         return false;
     }
     link_given(plan, link)
@@ -113,7 +115,7 @@ pub fn is_set(plan: &[u16; 1024], set: u8) -> bool
 pub fn set_of(plan: &[u16; 1024], link: u8) -> u8
     ensures { λ r. ⌜ r ≡ Lookup.setOf (planOf plan) link ⌝ }
 {
-    if 32 <= link {
+    if LINKS <= link {
         return 8;
     }
     link_set(plan, link)
@@ -123,7 +125,7 @@ pub fn set_of(plan: &[u16; 1024], link: u8) -> u8
 pub fn slc_of(plan: &[u16; 1024], link: u8) -> u8
     ensures { λ r. ⌜ r ≡ Lookup.slcOf (planOf plan) link ⌝ }
 {
-    if 32 <= link {
+    if LINKS <= link {
         return 0;
     }
     link_slc(plan, link)

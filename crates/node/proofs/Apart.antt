@@ -8,21 +8,22 @@ use lib.Dec.{eqb}
 use lib.ListN.{length}
 use Rattle.plan.specs.declared.data.Plan.{Plan}
 use Rattle.wire.specs.declared.header.Label.{Label}
-use Rattle.linkrecords.specs.LinkRecords.{recordAt}
+use Rattle.area_links.specs.LinkRecords.{recordAt}
 use Rattle.replies.specs.declared.Answer.{Answer}
 use Rattle.replies.specs.Reply.{done}
 use Rattle.replies.specs.Areas.{Areas, areas, Outcome, outcome, refused, judged, Leaves}
 use Rattle.discrimination.specs.declared.Came.{Came}
 use Rattle.discrimination.specs.declared.Came.the-variants.{Malformed, Foreign, Delivered, Managed, Passed}
 use Rattle.discrimination.specs.Discrimination.{fromHost}
-use Rattle.ending.specs.End.{cutUnknown, outOfService}
-use Rattle.failure.specs.Overdue as Overdue
-use Rattle.overdue.specs.Expire as Changeover
-use Rattle.making.specs.Make.{withMade, makesReply}
+use Rattle.changeover_cuts.specs.Cuts.{cutUnknown}
+use Rattle.changeover_ending.specs.End.{outOfService}
+use Rattle.changeover_failure.specs.Overdue as Overdue
+use Rattle.changeover_overdue.specs.Expire as Changeover
+use Rattle.management_making.specs.Make.{withMade, makesReply}
 use Rattle.rerouting.specs.Timer as Rerouting
-use Rattle.expiry.specs.Expiry as Expiry
-use Rattle.passage.specs.Passage.{linkOf, placeReply, queued, octetsQueued}
-use Rattle.offering.specs.Host.{refuses, offered, fromHostBy, sent, octetsOffered, octetsBy, octetsSent}
+use Rattle.rerouting_expiry.specs.Expiry as Expiry
+use Rattle.passing_passage.specs.Passage.{linkOf, placeReply, queued, octetsQueued}
+use Rattle.passing_offering.specs.Host.{refuses, offered, fromHostBy, sent, octetsOffered, octetsBy, octetsSent}
 
 -- areas with other arrival numbers, or with another report area
 abbrev pub arrivalsIn : List ℕ → Areas → Areas
@@ -160,11 +161,7 @@ module _ (plan : Plan) (a : Areas) where
   octets-by-kind : (came : Came) (octets message : List ℕ)
       → octetsBy plan came noReports octets message ≡ octetsBy plan came a octets message
   unfolding octetsBy octetsOffered refuses linkOf octetsQueued
-  octets-by-kind Malformed octets message = refl
-  octets-by-kind Foreign octets message = refl
-  octets-by-kind Delivered octets message = refl
-  octets-by-kind (Managed order) octets message = refl
-  octets-by-kind (Passed label) octets message = refl
+  octets-by-kind came octets message = refl
 
   pub octets-apart : (message octets : List ℕ) → octetsSent plan message noReports octets ≡ octetsSent plan message a octets
   unfolding octetsSent

@@ -1,5 +1,5 @@
 -- The events that change more than areas, or a few areas only: what their functions promise gives their result. Assumes nothing.
-use mathlib.Core.Path.{_≡_}
+use mathlib.Core.Path.{_≡_, ap}
 use mathlib.Core.List.{List}
 use Prim.Native.Nat.{ℕ}
 use lib.ListN.{length}
@@ -7,15 +7,14 @@ use Rattle.plan.specs.declared.data.Plan.{Plan}
 use Rattle.replies.specs.declared.Answer.{Answer}
 use Rattle.replies.specs.Reply.{plain}
 use Rattle.replies.specs.Areas.{areas, withLinks, withMarks}
-use Rattle.listing.specs.RouteList.{listAnswer, listReply, listed, laid}
-use Rattle.heads.specs.Head.{both}
+use Rattle.queue_heads.specs.Head.{Queues, both}
 use Rattle.sending.specs.Send as Send
 use Rattle.acknowledging.specs.Acknowledge as Acknowledge
-use Rattle.waiting.specs.Wait as Wait
-use Rattle.expiry.specs.Expiry as Expiry
-use Rattle.current.specs.Flags.{t8}
+use Rattle.changeback_waiting.specs.Wait as Wait
+use Rattle.rerouting_expiry.specs.Expiry as Expiry
+use Rattle.constants.specs.Constants.{t8}
 use Rattle.node.specs.Memory.{Memory, memory, Gives}
-use Rattle.node.specs.Call.{sends, acknowledges, waitEnds, t8Ends, lists}
+use Rattle.node.specs.Call.{sends, acknowledges, waitEnds, t8Ends}
 use Rattle.node.proofs.Giving.{gives}
 
 module _ (plan : Plan) (m : Memory) where
@@ -48,8 +47,7 @@ module _ (plan : Plan) (m : Memory) where
   pub gives-acknowledgement : (link b reply : ℕ) (links′ spans′ rings′ : List ℕ)
       → (reply ≡ Acknowledge.replyOf plan links link b)
       × ((links′ ≡ Acknowledge.linksAfter plan links link b)
-      × ((spans′ ≡ Acknowledge.queuesAfter plan links (both spans rings) link b .spans)
-      × (rings′ ≡ Acknowledge.queuesAfter plan links (both spans rings) link b .rings)))
+      × (both spans′ rings′ ≡ Acknowledge.queuesAfter plan links (both spans rings) link b))
       → (r : Answer) → r ≡ plain reply
       → let a = m .areas in
       Gives (acknowledges plan link b m) r
@@ -57,8 +55,10 @@ module _ (plan : Plan) (m : Memory) where
   unfolding acknowledges
   gives-acknowledgement link b reply links′ spans′ rings′ told r says =
       let a = m .areas in
+      let spans-are = ap (λ (q : Queues). q .spans) (told .1 .1) in
+      let rings-are = ap (λ (q : Queues). q .rings) (told .1 .1) in
       gives (acknowledges plan link b m) r (areas links′ marks spans′ rings′ rows (a .arrivals) (a .reports)) (m .octets) (m .out)
-      (simp (says, told .0, told .1 .0, told .1 .1 .0, told .1 .1 .1))
+      (simp (says, told .0, told .1 .0, spans-are, rings-are))
 
   -- T3, or T4, expires
   pub gives-wait : (link timer reply : ℕ) (links′ : List ℕ)
@@ -77,11 +77,3 @@ module _ (plan : Plan) (m : Memory) where
   unfolding t8Ends
   gives-t8 x reply marks′ told r says =
       gives (t8Ends plan x m) r (withMarks (m .areas) marks′) (m .octets) (m .out) (simp (says, told .0, told .1))
-
-  -- the route list is asked for
-  pub gives-list : (r : Answer) (out′ : List ℕ)
-      → let text = listed (m .out) links marks plan in
-      (r ≡ listAnswer (listReply (m .out) plan) (length text)) × (out′ ≡ laid (m .out) 0 text)
-      → Gives (lists plan m) r (memory (m .areas) (m .octets) out′)
-  unfolding lists
-  gives-list r out′ told = gives (lists plan m) r (m .areas) (m .octets) out′ (simp (told .0, told .1))

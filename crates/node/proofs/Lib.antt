@@ -1,3 +1,4 @@
 pub mod Apart
 pub mod Giving
 pub mod Events
+pub mod Viewed

@@ -7,24 +7,23 @@ use Rattle.plan.specs.declared.data.Plan.{Plan}
 use Rattle.replies.specs.declared.Answer.{Answer}
 use Rattle.replies.specs.Reply.{plain}
 use Rattle.replies.specs.Areas.{Areas, areas, withLinks, withMarks}
-use Rattle.listing.specs.RouteList.{listAnswer, listReply, listed, laid}
-use Rattle.heads.specs.Head.{both}
+use Rattle.queue_heads.specs.Head.{both}
 use Rattle.sending.specs.Send as Send
 use Rattle.acknowledging.specs.Acknowledge as Acknowledge
 use Rattle.changeover.specs.Fail.{failed}
-use Rattle.overdue.specs.Expire as Changeover
+use Rattle.changeover_overdue.specs.Expire as Changeover
 use Rattle.changeback.specs.Service.{intoService}
-use Rattle.waiting.specs.Wait as Wait
+use Rattle.changeback_waiting.specs.Wait as Wait
 use Rattle.rerouting.specs.Timer as Rerouting
-use Rattle.expiry.specs.Expiry as Expiry
-use Rattle.current.specs.Flags.{t8}
+use Rattle.rerouting_expiry.specs.Expiry as Expiry
+use Rattle.constants.specs.Constants.{t8}
 use Rattle.receiving.specs.Receive.{received, octetsReceived}
-use Rattle.offering.specs.Host.{sent, octetsSent}
+use Rattle.passing_offering.specs.Host.{sent, octetsSent}
 use Rattle.node.specs.declared.call.Event.{Event}
-use Rattle.node.specs.declared.call.Event.the-variants.{IntoService, Failure, Send, Acknowledgement, Received, FromHost, T1, T2, T3, T4, T6, T8, T10, RouteList}
+use Rattle.node.specs.declared.call.Event.the-variants.{IntoService, Failure, Send, Acknowledgement, Received, FromHost, T1, T2, T3, T4, T6, T8, T10}
 use Rattle.node.specs.Memory.{Memory, Result, result, ofAreas}
 
--- level 2 asks for the next message
+-- level 2 asks for the next message (R104)
 unfoldable pub sends : Plan → ℕ → Memory → Result
 sends plan link m =
     let a = m .areas in
@@ -61,13 +60,6 @@ t8Ends plan x m =
     (m .octets)
     (m .out)
 
--- the route list is asked for
-unfoldable pub lists : Plan → Memory → Result
-lists plan m =
-    let a = m .areas in
-    let text = listed (m .out) (a .links) (a .marks) plan in
-    result (listAnswer (listReply (m .out) plan) (length text)) a (m .octets) (laid (m .out) 0 text)
-
 -- a message came in over a link
 unfoldable pub receives : Plan → ℕ → ℕ → List ℕ → Memory → Result
 receives plan link fsn message m =
@@ -80,7 +72,7 @@ takesOver plan message m =
     let o = sent plan message (m .areas) in
     result (o .answer) (o .after) (octetsSent plan message (m .areas) (m .octets)) (m .out)
 
--- every event
+-- every event (D2, R2, R3, R5)
 unfoldable pub callOf : Plan → Event → List ℕ → Memory → Result
 callOf plan (IntoService link) message m = ofAreas (intoService plan (m .areas) link) m
 callOf plan (Failure link) message m = ofAreas (failed plan (m .areas) link) m
@@ -95,4 +87,3 @@ callOf plan (T4 link) message m = waitEnds plan link 4 m
 callOf plan (T6 x) message m = ofAreas (Rerouting.expiredT6 plan (m .areas) x) m
 callOf plan (T8 x) message m = t8Ends plan x m
 callOf plan (T10 x set) message m = ofAreas (Rerouting.expiredT10 plan (m .areas) x set) m
-callOf plan RouteList message m = lists plan m

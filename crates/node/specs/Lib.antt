@@ -1,2 +1,4 @@
 pub mod Memory
 pub mod Call
+pub mod Ask
+pub mod View

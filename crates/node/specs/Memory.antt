@@ -3,7 +3,7 @@ use Prim.Native.Nat.{ℕ}
 use mathlib.Core.Path.{_≡_}
 use mathlib.Core.List.{List}
 use Rattle.replies.specs.declared.Answer.{Answer}
-use Rattle.replies.specs.Areas.{Areas, Outcome}
+use Rattle.replies.specs.Areas.{Areas, Lent, Outcome, before, after}
 
 pub record Memory : Type 0 where
   pub areas : Areas
@@ -12,6 +12,15 @@ pub record Memory : Type 0 where
 
 abbrev pub memory : Areas → List ℕ → List ℕ → Memory
 memory areas octets out = record { areas = areas; octets = octets; out = out }
+
+-- all that is lent to a call, as it stands before it and after it
+abbrev pub memoryBefore : Lent → Lent → Lent → Lent → Lent → Lent → Lent → Lent → Lent → Memory
+memoryBefore links marks spans rings rows arrivals reports octets out =
+    memory (before links marks spans rings rows arrivals reports) (octets .entry .now) (out .entry .now)
+
+abbrev pub memoryAfter : Lent → Lent → Lent → Lent → Lent → Lent → Lent → Lent → Lent → Memory
+memoryAfter links marks spans rings rows arrivals reports octets out =
+    memory (after links marks spans rings rows arrivals reports) (octets .exit .now) (out .exit .now)
 
 -- what a call answers, and the memory after it
 pub record Result : Type 0 where
@@ -25,7 +34,7 @@ result answer areas octets out = record { answer = answer; after = memory areas 
 abbrev pub ofAreas : Outcome → Memory → Result
 ofAreas o m = result (o .answer) (o .after) (m .octets) (m .out)
 
--- an answer, and a memory, are those of a result
+-- an answer, and a memory, are those of a result (R210, R211)
 pub record Gives (expected : Result) (r : Answer) (m : Memory) : Type 0 where
   pub answers : r ≡ expected .answer
   pub in-links : m .areas .links ≡ expected .after .areas .links

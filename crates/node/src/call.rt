@@ -1,21 +1,19 @@
 // The single entry: every event of the node.
 use acknowledging::acknowledge;
 use changeback::into_service;
+use changeback_waiting::expire_wait;
 use changeover::fail;
-use expiry::expire_t8;
-use listing::list::route_list;
-use offering::send_host;
-use overdue::expire;
+use changeover_overdue::expire;
+use passing_offering::send_host;
 use receiving::receive;
 use replies::Answer;
 use replies::plain;
 use rerouting::timer::expire_t6;
 use rerouting::timer::expire_t10;
+use rerouting_expiry::expire_t8;
 use sending::send;
-use waiting::expire_wait;
-ghost use Rattle.planwords.specs.Words.{planOf};
-ghost use Rattle.replies.specs.Areas.{areas};
-ghost use Rattle.node.specs.Memory.{memory, Gives};
+ghost use Rattle.plan_words.specs.Words.{planOf};
+ghost use Rattle.node.specs.Memory.{memoryBefore, memoryAfter, Gives};
 ghost use Rattle.node.specs.Call.{callOf};
 
 pub enum Event {
@@ -37,11 +35,9 @@ pub enum Event {
     T6(u16),
     T8(u16),
     T10(u16, u8),
-    // The route list is asked for.
-    RouteList,
 }
 
-// One call of the node: the message is that received or handed over, the output that of a send or of the route list.
+// One call of the node: the message is that received or handed over, the output that of a send.
 pub fn call(
     plan: &[u16; 1024],
     links: &mut [u32; 256],
@@ -56,7 +52,9 @@ pub fn call(
     out: &mut [u8],
     reports: &mut [u64],
 ) -> Answer
-    ensures { λ r. ⌜ Gives (callOf (planOf plan) event (now (message .entry)) (memory (areas (now (links .entry)) (now (marks .entry)) (now (spans .entry)) (now (rings .entry)) (now (rows .entry)) (now (arrivals .entry)) (now (reports .entry))) (now (octets .entry)) (now (out .entry)))) r (memory (areas (now (links .exit)) (now (marks .exit)) (now (spans .exit)) (now (rings .exit)) (now (rows .exit)) (now (arrivals .exit)) (now (reports .exit))) (now (octets .exit)) (now (out .exit))) ⌝ }
+    ensures { λ r. ⌜ Gives
+        (callOf (planOf plan) event (now (message .entry)) (memoryBefore links marks spans rings rows arrivals reports octets out)) r
+        (memoryAfter links marks spans rings rows arrivals reports octets out) ⌝ }
 {
     match event {
         Event::IntoService(link) => into_service(
@@ -115,6 +113,5 @@ pub fn call(
         Event::T6(x) => expire_t6(plan, links, marks, spans, rings, rows, x, reports),
         Event::T8(x) => plain(expire_t8(plan, marks, x)),
         Event::T10(x, set) => expire_t10(plan, links, marks, spans, rings, rows, arrivals, x, set),
-        Event::RouteList => route_list(plan, links, marks, out),
     }
 }

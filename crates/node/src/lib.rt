@@ -1,2 +1,3 @@
-// The node: one entry for every event.
+// The node: one entry for every event, and one for every question.
+pub mod ask;
 pub mod call;

@@ -1,15 +1,15 @@
--- The numbers of one link, "counted modulo 128 on from the last acknowledged".
+-- The numbers of one link, "counted modulo 128 on from the last acknowledged" (R103).
 use Prim.Native.Nat.{ℕ}
 use mathlib.Core.List.{List}
 use Rattle.counting.specs.Counting.{onward, next, distance}
-use Rattle.linkrecords.specs.declared.LinkRecord.{LinkRecord}
-use Rattle.linkrecords.specs.LinkRecords.{withReceived}
+use Rattle.area_links.specs.declared.LinkRecord.{LinkRecord}
+use Rattle.area_numbers.specs.LinkWords.{withReceived}
 
 -- how many are sent with one message more
 abbrev pub oneMore : LinkRecord → ℕ
 oneMore known = next 128 (known .sent)
 
--- "the next FSN": that many on as there will be sent
+-- "the next FSN" (R103): that many on as there will be sent
 abbrev pub nextNumber : LinkRecord → ℕ
 nextNumber known = onward 128 (known .acknowledged) (oneMore known)
 
@@ -17,10 +17,10 @@ nextNumber known = onward 128 (known .acknowledged) (oneMore known)
 abbrev pub upTo : LinkRecord → ℕ → ℕ
 upTo known b = distance 128 (known .acknowledged) b
 
--- "Messages up to B are retired": how many of the sent ones are left behind b
+-- "Messages up to B are retired" (R109): how many of the sent ones are left behind b
 abbrev pub leftSent : LinkRecord → ℕ → ℕ
 leftSent known b = distance 128 (upTo known b) (known .sent)
 
--- "\"Taken\" moves that link's last received FSN on and changes nothing else"
+-- "\"Taken\" moves that link's last received FSN on and changes nothing else" (R62)
 unfoldable pub taken : List ℕ → ℕ → ℕ → List ℕ
 taken links link fsn = withReceived links link fsn

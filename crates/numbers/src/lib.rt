@@ -1,9 +1,9 @@
 // The numbers of one link's record, as send, acknowledgement and a received message change them.
+use area_links::LinkRecord;
+use area_numbers::store_received;
 use counting::distance;
 use counting::next;
 use counting::onward;
-use linkrecords::LinkRecord;
-use linkrecords::store_received;
 ghost use mathlib.Core.Path.{_≡_};
 ghost use Rattle.numbers.specs.Numbers as Numbers;
 

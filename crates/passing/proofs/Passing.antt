@@ -15,8 +15,8 @@ use Rattle.replies.proofs.Leaving.{leaves}
 use Rattle.replies.proofs.Judging.{is-refused, is-done}
 use Rattle.numbers.specs.Numbers.{taken}
 use Rattle.numbers.specs.Taken.{withTaken}
-use Rattle.passage.specs.Passage.{unreachable, placeReply, queued, octetsQueued}
-use Rattle.passage.proofs.Placing.{Placed, queued-kept}
+use Rattle.passing_passage.specs.Passage.{unreachable, placeReply, queued, octetsQueued}
+use Rattle.passing_passage.proofs.Placing.{Placed, queued-kept}
 use Rattle.passing.specs.Pass.{notReached, passed, octetsPassed}
 
 module _ (plan : Plan) (arriving fsn : ℕ) (label : Label) (a : Areas) (octets message : List ℕ) where

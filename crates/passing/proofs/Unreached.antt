@@ -12,11 +12,11 @@ use Rattle.replies.proofs.Rows.{refused}
 use Rattle.replies.proofs.Leaving.{leaves}
 use Rattle.numbers.specs.Numbers.{taken}
 use Rattle.numbers.specs.Taken.{withTaken, takenOnly}
-use Rattle.making.specs.declared.Draft.{Draft}
-use Rattle.making.specs.declared.Made.{Made}
-use Rattle.making.specs.Make.{Held, held, heldIn, withHeld, isMade, made, withMade, makesReply}
-use Rattle.making.proofs.Making.{MakeLeaves, refused-kept}
-use Rattle.passage.specs.Passage.{prohibitedTo, tells, withT8}
+use Rattle.management_making.specs.declared.Draft.{Draft}
+use Rattle.management_making.specs.declared.Made.{Made}
+use Rattle.management_making.specs.Make.{Held, held, heldIn, withHeld, isMade, made, withMade, makesReply}
+use Rattle.management_making.proofs.Making.{MakeLeaves, refused-kept}
+use Rattle.passing_passage.specs.Passage.{prohibitedTo, tells, withT8}
 use Rattle.passing.specs.Pass.{marksTold, notReached}
 use Rattle.replies.proofs.Judging.{is-refused, is-done}
 
@@ -55,16 +55,13 @@ pub asked : (plan : Plan) (a : Areas) (arriving x : ℕ) → tells plan (a .mark
     → MakeLeaves plan (a .links) (a .marks) draft (a .spans) (a .rings) (a .rows) (a .arrivals) sent spans rings rows arrivals
     → Asked plan a arriving x sent (held spans rings rows arrivals)
 asked plan a arriving x due draft drafted sent spans rings rows arrivals left =
-    let whole : held spans rings rows arrivals ≡ made plan (a .links) (a .marks) draft (heldIn a) =
-    simp (left .1 .0, left .1 .1 .0, left .1 .1 .1 .0, left .1 .1 .1 .1)
-    in
     record {
       is-due = due;
       replies = ap (λ (m : Made). m .reply) (left .0) ∙ ap (λ (d : Draft). makesReply plan d a) drafted;
       makes =
           ap (λ (m : Made). m .made) (left .0)
           ∙ ap (λ (d : Draft). isMade plan (a .links) (a .marks) (a .spans) (a .arrivals) d) drafted;
-      holds = whole ∙ ap (λ (d : Draft). made plan (a .links) (a .marks) d (heldIn a)) drafted;
+      holds = left .1 ∙ ap (λ (d : Draft). made plan (a .links) (a .marks) d (heldIn a)) drafted;
     }
 
 module _ (plan : Plan) (a : Areas) (arriving fsn x : ℕ) (sent : Made) (now : Held) (so : Asked plan a arriving x sent now) where

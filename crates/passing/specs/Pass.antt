@@ -1,4 +1,4 @@
--- A message for another point that came over a link: queued on its link or held apart; or, where that can't be reached, "Reply 9", with a
+-- A message for another point that came over a link: queued on its link or held apart; or, where that can't be reached, reply 9, with a
 -- TFP perhaps.
 use Prim.Native.Nat.{ℕ}
 use mathlib.Core.Bool.{cond}
@@ -7,18 +7,18 @@ use Rattle.plan.specs.declared.data.Plan.{Plan}
 use Rattle.wire.specs.declared.header.Label.{Label}
 use Rattle.replies.specs.Reply.{plain, done}
 use Rattle.replies.specs.Areas.{Areas, Outcome, outcome, judged, withMarks}
-use Rattle.making.specs.Make.{isMade, withMade, makesReply}
+use Rattle.management_making.specs.Make.{isMade, withMade, makesReply}
 use Rattle.numbers.specs.Taken.{withTaken}
-use Rattle.passage.specs.Passage.{unreachable, placeReply, queued, octetsQueued, prohibitedTo, tells, withT8}
+use Rattle.passing_passage.specs.Passage.{unreachable, placeReply, queued, octetsQueued, prohibitedTo, tells, withT8}
 
--- "with a TFP made, T8 starts"
+-- "with a TFP made, T8 starts" (R72)
 unfoldable pub marksTold : Plan → Areas → ℕ → ℕ → List ℕ
 marksTold plan a arriving x =
     cond (isMade plan (a .links) (a .marks) (a .spans) (a .arrivals) (prohibitedTo plan arriving x))
     (withT8 plan (a .marks) x)
     (a .marks)
 
--- reply 9 to a message from a link, or "8 or 10 is given in place of 9 where its TFP finds no place or number"
+-- reply 9 to a message from a link, or "8 or 10 is given in place of 9 where its TFP finds no place or number" (R7, R55, R61, R70)
 unfoldable pub notReached : Plan → ℕ → ℕ → ℕ → Areas → Outcome
 notReached plan arriving fsn x a =
     cond (tells plan (a .marks) x)

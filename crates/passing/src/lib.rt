@@ -1,21 +1,22 @@
 // A message for another point that came over a link: queued, or told to be out of reach.
-use making::make;
+use constants::NO_LINK;
+use management_making::make;
 use numbers::take_message;
-use passage::prohibited_to;
-use passage::ring_of;
-use passage::start_t8;
-use passage::tells;
-use queueing::queue_user;
+use passing_passage::prohibited_to;
+use passing_passage::ring_of;
+use passing_passage::start_t8;
+use passing_passage::tells;
+use queue_joining::queue_user;
 use replies::Answer;
 use replies::done;
 use replies::plain;
-use ways::directed;
-use ways::for_users;
+use route_ways::directed;
+use route_ways::for_users;
 use wire::header::Label;
-ghost use Rattle.planwords.specs.Words.{planOf};
+ghost use Rattle.plan_words.specs.Words.{planOf};
 ghost use mathlib.Core.Path.{_≡_};
 ghost use lib.ListN.{length};
-ghost use Rattle.replies.specs.Areas.{areas, Leaves};
+ghost use Rattle.replies.specs.Areas.{old, new, Leaves, before, after};
 ghost use Rattle.passing.specs.Pass as Pass;
 
 // A message for a point that can't be reached.
@@ -32,7 +33,8 @@ fn not_reached(
     x: u16,
     reports: &[u64],
 ) -> Answer
-    ensures { λ r. ⌜ Leaves (Pass.notReached (planOf plan) arriving fsn x (areas (now (links .entry)) (now (marks .entry)) (now (spans .entry)) (now (rings .entry)) (now (rows .entry)) (now (arrivals .entry)) (now (reports .entry)))) r (areas (now (links .exit)) (now (marks .exit)) (now (spans .exit)) (now (rings .exit)) (now (rows .exit)) (now (arrivals .exit)) (now (reports .entry))) ⌝ }
+    ensures { λ r. ⌜ Leaves (Pass.notReached (planOf plan) arriving fsn x (before links marks spans rings rows arrivals reports)) r
+        (after links marks spans rings rows arrivals reports) ⌝ }
 {
     let due = tells(plan, marks, x);
     if !due {
@@ -67,11 +69,13 @@ pub fn pass_on(
     message: &[u8],
     reports: &[u64],
 ) -> Answer
-    ensures { λ r. ⌜ Leaves (Pass.passed (planOf plan) arriving fsn label (length (now (message .entry))) (areas (now (links .entry)) (now (marks .entry)) (now (spans .entry)) (now (rings .entry)) (now (rows .entry)) (now (arrivals .entry)) (now (reports .entry)))) r (areas (now (links .exit)) (now (marks .exit)) (now (spans .exit)) (now (rings .exit)) (now (rows .exit)) (now (arrivals .exit)) (now (reports .entry))) ⌝ }
-    ensures { λ r. ⌜ now (octets .exit) ≡ Pass.octetsPassed (planOf plan) label (areas (now (links .entry)) (now (marks .entry)) (now (spans .entry)) (now (rings .entry)) (now (rows .entry)) (now (arrivals .entry)) (now (reports .entry))) (now (octets .entry)) (now (message .entry)) ⌝ }
+    ensures { λ r. ⌜ Leaves (Pass.passed (planOf plan) arriving fsn label (length (old message)) (before links marks spans rings rows arrivals reports)) r
+        (after links marks spans rings rows arrivals reports) ⌝ }
+    ensures { λ r. ⌜ new octets ≡
+        Pass.octetsPassed (planOf plan) label (before links marks spans rings rows arrivals reports) (old octets) (old message) ⌝ }
 {
     let to = directed(plan, links, marks, for_users(), label.dpc, label.sls);
-    if 32 <= to.link {
+    if NO_LINK <= to.link {
         return not_reached(
             plan,
             links,

@@ -31,11 +31,11 @@ linkAt plan number = getD (plan .links) number noLink
 abbrev pub destinationAt : Plan → ℕ → Destination
 destinationAt plan place = getD (plan .destinations) place noDestination
 
--- "Links of a set stand in SLC order."
+-- "Links of a set stand in SLC order." (R76)
 abbrev pub linksOf : Plan → ℕ → List ℕ
 linksOf plan set = take (setAt plan set .count) (setAt plan set .links)
 
--- the routes of a destination, the best rank first
+-- the routes of a destination, the best rank first (R13)
 abbrev pub routesOf : Plan → ℕ → List Route
 routesOf plan destination = destinationAt plan destination .routes
 

@@ -13,19 +13,19 @@ linkIn plan those place = getD (linksOf plan those) place 0
 
 -- a plan whose tables are whole and in order, and whose sets and links agree
 pub record Sound (plan : Plan) : Type 0 where
-  -- eight sets
+  -- eight sets (R9)
   pub eight-sets : length (plan .sets) ≡ 8
-  -- 32 links
+  -- 32 links (R8)
   pub all-links : length (plan .links) ≡ 32
-  -- "64 destinations"
+  -- "64 destinations" (R11)
   pub all-destinations : length (plan .destinations) ≡ 64
-  -- places for eight links in each set
+  -- places for eight links in each set (R10)
   pub eight-places : (those : ℕ) → those < 8 → length (setAt plan those .links) ≡ 8
-  -- "four routes for each of 64 destinations"
+  -- "four routes for each of 64 destinations" (R12, R203)
   pub four-ranks : (place : ℕ) → place < 64 → length (routesOf plan place) ≡ 4
   -- the given destinations are in ascending code
   pub ascending : (i j : ℕ) → i < j → j < given plan → codeAt (plan .destinations) i < codeAt (plan .destinations) j
-  -- "Links of a set stand in SLC order."
+  -- "Links of a set stand in SLC order." (R76)
   pub slc-order : (those i j : ℕ) → i < j → j < length (linksOf plan those) → linkAt plan (linkIn plan those i) .slc < linkAt plan (linkIn plan those j) .slc
   -- a link of a set is one of the 32
   pub in-table : (those i : ℕ) → i < length (linksOf plan those) → linkIn plan those i < 32

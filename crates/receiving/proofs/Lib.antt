@@ -1,2 +1,1 @@
-pub mod LinkRows
 pub mod Receiving

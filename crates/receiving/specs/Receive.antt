@@ -1,39 +1,26 @@
--- "Message received: open or waiting; else reply 5."
+-- A message that came over a link: where its reply (`receiving_acceptance`) is 0, what becomes of it is by what it is.
 use Prim.Native.Nat.{ℕ}
-use mathlib.Core.Bool.{Bool, true, cond, not, _||_}
-use mathlib.Core.List.{List, [], _∷_}
-use lib.Dec.{eqb, leb}
+use mathlib.Core.Bool.{true}
+use mathlib.Core.List.{List}
 use lib.ListN.{length}
 use Rattle.plan.specs.declared.data.Plan.{Plan}
-use Rattle.counting.specs.Counting.{next}
-use Rattle.linkrecords.specs.LinkRecords.{recordAt}
 use Rattle.replies.specs.declared.Answer.{Answer}
-use Rattle.replies.specs.Reply.{row, first, ifDone}
+use Rattle.replies.specs.Reply.{ifDone}
 use Rattle.replies.specs.Areas.{Areas, Outcome, outcome, judged}
-use Rattle.reports.specs.Report.{short}
-use Rattle.lookup.specs.Lookup.{isLink}
 use Rattle.discrimination.specs.declared.Came.{Came}
 use Rattle.discrimination.specs.declared.Came.the-variants.{Malformed, Foreign, Delivered, Managed, Passed}
 use Rattle.discrimination.specs.Discrimination.{fromLink}
 use Rattle.numbers.specs.Taken.{withTaken, takenOnly}
 use Rattle.passing.specs.Pass.{passed, octetsPassed}
-use Rattle.managing.specs.Managed.{managed}
+use Rattle.management.specs.Managed.{managed}
+pub use Rattle.receiving_acceptance.specs.Acceptance.{refusalsOf}
+unfoldable pub use Rattle.receiving_acceptance.specs.Acceptance.{replyOf}
 
--- the reply before the message is looked at: 1, 2, 5, and 6 where "received FSN isn't the last plus 1"
-unfoldable pub replyOf : Plan → List ℕ → ℕ → ℕ → List ℕ → ℕ
-replyOf plan links link fsn reports =
-    first
-    (row 1 (leb 32 link || (leb 128 fsn || short reports))
-    ∷ row 2 (not (isLink plan link))
-    ∷ row 5 (not (eqb (recordAt links link .state) 2 || eqb (recordAt links link .state) 1))
-    ∷ row 6 (not (eqb fsn (next 128 (recordAt links link .received))))
-    ∷ [])
-
--- delivered: "the host gets the part of its own octets after the label"
+-- delivered: "the host gets the part of its own octets after the label" (R40)
 abbrev pub delivery : Answer
 delivery = record { reply = 0; fsn = 0; octets = 0; reports = 0; delivers = true }
 
--- by what the message is
+-- by what the message is (R1, R39, R49)
 unfoldable pub receivedBy : Plan → ℕ → ℕ → ℕ → Came → Areas → Outcome
 receivedBy plan link fsn size Malformed a = takenOnly link fsn 3 a
 receivedBy plan link fsn size Foreign a = takenOnly link fsn 4 a

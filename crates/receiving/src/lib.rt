@@ -1,48 +1,19 @@
-// A message received over a link.
-use counting::next;
+// A message received over a link: by its reply (`receiving_acceptance`), and then by what it is.
 use discrimination::Came;
 use discrimination::from_link;
-use linkrecords::load_link;
-use lookup::is_link;
-use managing::manage;
+use management::manage;
 use numbers::take_message;
 use passing::pass_on;
+use receiving_acceptance::receive_reply;
 use replies::Answer;
 use replies::plain;
-use reports::short;
-ghost use Rattle.planwords.specs.Words.{planOf};
+ghost use Rattle.plan_words.specs.Words.{planOf};
 ghost use mathlib.Core.Path.{_≡_};
 ghost use lib.ListN.{length};
 ghost use Rattle.numbers.specs.Numbers.{taken};
 ghost use Rattle.replies.specs.Reply.{plain};
-ghost use Rattle.replies.specs.Areas.{areas, Leaves};
+ghost use Rattle.replies.specs.Areas.{old, new, Leaves, before, after};
 ghost use Rattle.receiving.specs.Receive as Receive;
-
-// The reply before the message is looked at.
-fn receive_reply(plan: &[u16; 1024], links: &[u32; 256], link: u8, fsn: u8, reports: &[u64]) -> u8
-    ensures { λ r. ⌜ r ≡ Receive.replyOf (planOf plan) (now (links .entry)) link fsn (now (reports .entry)) ⌝ }
-{
-    if 32 <= link {
-        return 1;
-    }
-    if 128 <= fsn {
-        return 1;
-    }
-    if short(reports) {
-        return 1;
-    }
-    if !is_link(plan, link) {
-        return 2;
-    }
-    let known = load_link(links, link);
-    if known.state != 2 && known.state != 1 {
-        return 5;
-    }
-    if fsn != next(known.received) {
-        return 6;
-    }
-    0
-}
 
 // The message is taken and delivered.
 fn deliver(links: &mut [u32; 256], link: u8, fsn: u8) -> Answer
@@ -83,8 +54,10 @@ pub fn receive(
     message: &[u8],
     reports: &mut [u64],
 ) -> Answer
-    ensures { λ r. ⌜ Leaves (Receive.received (planOf plan) link fsn (now (message .entry)) (areas (now (links .entry)) (now (marks .entry)) (now (spans .entry)) (now (rings .entry)) (now (rows .entry)) (now (arrivals .entry)) (now (reports .entry)))) r (areas (now (links .exit)) (now (marks .exit)) (now (spans .exit)) (now (rings .exit)) (now (rows .exit)) (now (arrivals .exit)) (now (reports .exit))) ⌝ }
-    ensures { λ r. ⌜ now (octets .exit) ≡ Receive.octetsReceived (planOf plan) link fsn (now (message .entry)) (areas (now (links .entry)) (now (marks .entry)) (now (spans .entry)) (now (rings .entry)) (now (rows .entry)) (now (arrivals .entry)) (now (reports .entry))) (now (octets .entry)) ⌝ }
+    ensures { λ r. ⌜ Leaves (Receive.received (planOf plan) link fsn (old message) (before links marks spans rings rows arrivals reports)) r
+        (after links marks spans rings rows arrivals reports) ⌝ }
+    ensures { λ r. ⌜ new octets ≡
+        Receive.octetsReceived (planOf plan) link fsn (old message) (before links marks spans rings rows arrivals reports) (old octets) ⌝ }
 {
     let reply = receive_reply(plan, links, link, fsn, reports);
     if 0 < reply {

@@ -4,7 +4,7 @@ ghost use Rattle.replies.specs.Reply as Reply;
 
 #[repr(C)]
 pub struct Answer {
-    // The reply's number in the document's table.
+    // The reply's number in the paper's table.
     pub reply: u8,
     // Of a send: the number and how many octets leave.
     pub fsn: u8,

@@ -1,5 +1,5 @@
 -- "Reports: drops in queue order (arrival number, reason), then pause or resume, by code, of each destination whose access
--- changed." The area has two words for each record: what it is, and the arrival number or code that it is about.
+-- changed." (R138, R139) The area has two words for each record: what it is, and the arrival number or code that it is about.
 use Prim.Native.Nat.{ℕ, _+_, _*_, _/_}
 use mathlib.Core.Bool.{Bool, cond}
 use mathlib.Core.List.{List, [], _∷_}
@@ -26,11 +26,11 @@ resume = 5
 abbrev pub room : List ℕ → ℕ
 room area = length area / 2
 
--- "a lent report area room for 512 records": one with less is too short
+-- "a lent report area room for 512 records" (R25): one with less is too short (R43)
 abbrev pub short : List ℕ → Bool
 short area = ltb (room area) 512
 
--- a record behind those written before; a full area takes none
+-- a record behind those written before; a full area takes none (R69, R219)
 unfoldable pub told : Log → ℕ → ℕ → Log
 told written kind number =
     cond (ltb (written .count) (room (written .area)))

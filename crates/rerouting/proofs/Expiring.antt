@@ -10,21 +10,20 @@ use borrow.Author.Tests.{eqb-true, eqb-false}
 use borrow.Table.Steps.{cases}
 use Rattle.plan.specs.declared.data.Plan.{Plan}
 use Rattle.plan.specs.Find.{placeOf}
-use Rattle.flags.specs.Flags.{withFlag}
+use Rattle.area_flags.specs.Flags.{withFlag}
 use Rattle.replies.specs.declared.Answer.{Answer}
-use Rattle.replies.specs.Reply.{plain, done}
+use Rattle.replies.specs.Reply.{first, plain, done}
 use Rattle.replies.specs.Areas.{Areas, areas, Outcome, outcome, judged, Leaves}
 use Rattle.replies.proofs.Judging.{is-refused, is-done}
 use Rattle.replies.proofs.Leaving.{leaves}
 use Rattle.reports.specs.Report.{short}
-use Rattle.retiring.specs.Leave.{State, state}
-use Rattle.retiring.proofs.States.{AllAre, all-whole}
-use Rattle.making.specs.declared.Draft.{Draft}
-use Rattle.making.specs.declared.Made.{Made}
-use Rattle.making.specs.Make.{Held, held, heldIn, withHeld, withMade, makesReply, made}
-use Rattle.making.proofs.Making.{MakeLeaves, refused-kept}
-use Rattle.releasing.specs.Release.{released}
-use Rattle.expiry.specs.Expiry.{replyOf, replyT10, testOf}
+use Rattle.queue_retiring.specs.Leave.{State, state}
+use Rattle.management_making.specs.declared.Draft.{Draft}
+use Rattle.management_making.specs.declared.Made.{Made}
+use Rattle.management_making.specs.Make.{Held, heldIn, withHeld, withMade, makesReply}
+use Rattle.management_making.proofs.Making.{MakeLeaves, refused-kept}
+use Rattle.rerouting_releasing.specs.Release.{released}
+use Rattle.rerouting_expiry.specs.Expiry.{replyOf, replyT10, testOf}
 use Rattle.rerouting.specs.Timer.{replyT6, expiredT6, expiredT10}
 
 -- an event that is refused leaves all as it was
@@ -37,7 +36,7 @@ leaves-all told reply is does before over answer r =
 -- T6: whether the area is too short is told first
 module _ (plan : Plan) (a : Areas) (x : ℕ) (is-short : Bool) (tells : is-short ≡ short (a .reports)) where
   t6-reply : (said : Bool) → is-short ≡ said → cond said 1 (replyOf plan (a .marks) x 4) ≡ replyT6 plan (a .marks) x (a .reports)
-  unfolding replyT6
+  unfolding replyT6 replyOf first
   t6-reply said e = ap (λ (t : Bool). cond t 1 (replyOf plan (a .marks) x 4)) (sym e ∙ tells)
 
   pub t6-short : is-short ≡ true → (answer : Answer) → answer ≡ plain 1 → Leaves (expiredT6 plan a x) answer a
@@ -52,8 +51,7 @@ module _ (plan : Plan) (a : Areas) (x : ℕ) (is-short : Bool) (tells : is-short
     -- its flag is cleared before anything moves
     pub t6-ends : reply ≤ 0 → (place : ℕ) → place ≡ placeOf plan x → (marks : List ℕ) → marks ≡ withFlag (a .marks) place 4 false
         → (spans rings reports : List ℕ) (count : ℕ)
-        → AllAre spans rings reports count
-        (released plan (a .links) marks (a .rows) x (state (a .spans) (a .rings) (a .reports) 0))
+        → state spans rings reports count ≡ released plan (a .links) marks (a .rows) x (state (a .spans) (a .rings) (a .reports) 0)
         → (answer : Answer) → answer ≡ done count
         → Leaves (expiredT6 plan a x) answer (areas (a .links) marks spans rings (a .rows) (a .arrivals) reports)
     unfolding expiredT6
@@ -68,7 +66,7 @@ module _ (plan : Plan) (a : Areas) (x : ℕ) (is-short : Bool) (tells : is-short
         in
         leaves (expiredT6 plan a x) answer (areas (a .links) marks spans rings (a .rows) (a .arrivals) reports)
         (ap (λ (n : Answer). outcome n (areas (a .links) marks spans rings (a .rows) (a .arrivals) reports)) r
-        ∙ ap (λ (s : State). after marks s) (all-whole spans rings reports count (now marks) are)
+        ∙ ap (λ (s : State). after marks s) are
         ∙ ap (λ (m : List ℕ). after m (now m)) (cleared ∙ ap (λ (p : ℕ). withFlag (a .marks) p 4 false) at)
         ∙ is-done reply (replyT6 plan (a .marks) x (a .reports)) (is ∙ t6-reply false e) _ a h)
 
@@ -99,13 +97,10 @@ module _ (plan : Plan) (a : Areas) (x set reply : ℕ) (is : reply ≡ replyT10 
       → Leaves (expiredT10 plan a x set) answer (areas (a .links) (a .marks) spans rings rows arrivals (a .reports))
   unfolding expiredT10
   t10-sends h draft drawn sent spans rings rows arrivals left answer r =
-      let now-held : held spans rings rows arrivals ≡ made plan (a .links) (a .marks) draft (heldIn a) =
-      simp (left .1 .0, left .1 .1 .0, left .1 .1 .1 .0, left .1 .1 .1 .1)
-      in
       leaves (expiredT10 plan a x set) answer (areas (a .links) (a .marks) spans rings rows arrivals (a .reports))
       (ap (λ (n : Answer). outcome n (areas (a .links) (a .marks) spans rings rows arrivals (a .reports)))
       (r ∙ ap (λ (s : Made). plain (s .reply)) (left .0))
-      ∙ ap (λ (n : Held). outcome (plain (makesReply plan draft a)) (withHeld a n)) now-held
+      ∙ ap (λ (n : Held). outcome (plain (makesReply plan draft a)) (withHeld a n)) (left .1)
       ∙ ap (λ (d : Draft). outcome (plain (makesReply plan d a)) (withMade plan d a)) drawn
       ∙ makes plan (testOf plan x set) a
       ∙ is-done reply (replyT10 plan (a .marks) x set) is _ a h)

@@ -13,10 +13,10 @@ use Rattle.replies.specs.Reply.{plain, done}
 use Rattle.replies.specs.Areas.{Areas, areas, Outcome, outcome, Leaves}
 use Rattle.replies.proofs.Leaving.{leaves}
 use Rattle.reports.specs.Report.{Log, log}
-use Rattle.access.specs.Change.{accessesOf, isAccessible, changesTold}
-use Rattle.access.proofs.Filled.{says-each}
-use Rattle.access.proofs.Same.{told-same}
-use Rattle.marking.specs.Mark.{counts, marksAfter}
+use Rattle.route_access.specs.Change.{accessesOf, isAccessible, changesTold}
+use Rattle.route_access.proofs.Filled.{says-each}
+use Rattle.route_access.proofs.Same.{told-same}
+use Rattle.rerouting_marking.specs.Mark.{counts, marksAfter}
 use Rattle.rerouting.specs.Transfer.{accessTold, transferred}
 
 module _ (plan : Plan) (arriving fsn point x : ℕ) (prohibits : Bool) (a : Areas) (effect : Bool)

@@ -8,15 +8,15 @@ use Rattle.numbers.specs.Taken.{takenOnly}
 use Rattle.replies.specs.Reply.{done}
 use Rattle.replies.specs.Areas.{Areas, areas, Outcome, outcome}
 use Rattle.reports.specs.Report.{Log, log}
-use Rattle.access.specs.Change.{isAccessible, changesTold}
-use Rattle.marking.specs.Mark.{counts, marksAfter}
+use Rattle.route_access.specs.Change.{isAccessible, changesTold}
+use Rattle.rerouting_marking.specs.Mark.{counts, marksAfter}
 
 -- a pause, or a resume
 unfoldable pub accessTold : Plan → Areas → List ℕ → Log
 accessTold plan a marks =
     changesTold plan (isAccessible plan (a .links) (a .marks)) (isAccessible plan (a .links) marks) (log (a .reports) 0)
 
--- a TFP, or a TFA, about X that came over a link with a number
+-- a TFP, or a TFA, about X that came over a link with a number (R153)
 unfoldable pub transferred : Plan → ℕ → ℕ → ℕ → ℕ → Bool → Areas → Outcome
 transferred plan arriving fsn point x prohibits a =
     let marks = marksAfter plan (a .links) (a .marks) point x prohibits in

@@ -1,19 +1,20 @@
 // T6 and T10 carried out: what is held apart moves, and the RST is made.
-use expiry::t10_reply;
-use expiry::test_of;
-use expiry::timer_reply;
-use flags::set_flag;
-use making::make;
-use planwords::find::find;
-use releasing::release;
+use area_flags::set_flag;
+use constants::T6;
+use management_making::make;
+use plan_words::find::find;
 use replies::Answer;
 use replies::done;
 use replies::plain;
 use reports::short;
-ghost use Rattle.planwords.specs.Words.{planOf};
+use rerouting_expiry::t10_reply;
+use rerouting_expiry::test_of;
+use rerouting_expiry::timer_reply;
+use rerouting_releasing::release;
+ghost use Rattle.plan_words.specs.Words.{planOf};
 ghost use mathlib.Core.Path.{_≡_};
 ghost use mathlib.Core.List.{[]};
-ghost use Rattle.replies.specs.Areas.{areas, Leaves};
+ghost use Rattle.replies.specs.Areas.{Leaves, beforeUnreported, afterUnreported, beforeUnnumbered, afterUnnumbered};
 ghost use Rattle.rerouting.specs.Timer as Timer;
 
 // T6 of a destination expires: what is held apart for it moves.
@@ -27,17 +28,18 @@ pub fn expire_t6(
     x: u16,
     reports: &mut [u64],
 ) -> Answer
-    ensures { λ r. ⌜ Leaves (Timer.expiredT6 (planOf plan) (areas (now (links .entry)) (now (marks .entry)) (now (spans .entry)) (now (rings .entry)) (now (rows .entry)) [] (now (reports .entry))) x) r (areas (now (links .entry)) (now (marks .exit)) (now (spans .exit)) (now (rings .exit)) (now (rows .entry)) [] (now (reports .exit))) ⌝ }
+    ensures { λ r. ⌜ Leaves (Timer.expiredT6 (planOf plan) (beforeUnnumbered links marks spans rings rows reports) x) r
+        (afterUnnumbered links marks spans rings rows reports) ⌝ }
 {
     if short(reports) {
         return plain(1);
     }
-    let reply = timer_reply(plan, marks, x, 4);
+    let reply = timer_reply(plan, marks, x, T6);
     if 0 < reply {
         return plain(reply);
     }
     let found = find(plan, x);
-    set_flag(marks, found.place, 4, false);
+    set_flag(marks, found.place, T6, false);
     done(release(plan, links, marks, spans, rings, rows, x, reports, 0))
 }
 
@@ -53,7 +55,8 @@ pub fn expire_t10(
     x: u16,
     set: u8,
 ) -> Answer
-    ensures { λ r. ⌜ Leaves (Timer.expiredT10 (planOf plan) (areas (now (links .entry)) (now (marks .entry)) (now (spans .entry)) (now (rings .entry)) (now (rows .entry)) (now (arrivals .entry)) []) x set) r (areas (now (links .entry)) (now (marks .entry)) (now (spans .exit)) (now (rings .exit)) (now (rows .exit)) (now (arrivals .exit)) []) ⌝ }
+    ensures { λ r. ⌜ Leaves (Timer.expiredT10 (planOf plan) (beforeUnreported links marks spans rings rows arrivals) x set) r
+        (afterUnreported links marks spans rings rows arrivals) ⌝ }
 {
     let reply = t10_reply(plan, marks, x, set);
     if 0 < reply {

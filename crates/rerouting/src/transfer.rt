@@ -1,15 +1,15 @@
 // TFP and TFA carried out: the message is taken, a route's mark set or cleared, and the access that changed is told.
-use access::accesses;
-use access::report_changes;
-use marking::counts;
-use marking::mark;
 use numbers::take_message;
 use replies::Answer;
 use replies::done;
 use replies::plain;
-ghost use Rattle.planwords.specs.Words.{planOf};
+use rerouting_marking::counts;
+use rerouting_marking::mark;
+use route_access::accesses;
+use route_access::report_changes;
+ghost use Rattle.plan_words.specs.Words.{planOf};
 ghost use mathlib.Core.Path.{_≡_};
-ghost use Rattle.replies.specs.Areas.{areas, Leaves};
+ghost use Rattle.replies.specs.Areas.{Leaves, before, after};
 ghost use Rattle.rerouting.specs.Transfer as Transfer;
 
 // A TFP, or a TFA, about X came over a link with a number.
@@ -28,7 +28,8 @@ pub fn transfer(
     prohibits: bool,
     reports: &mut [u64],
 ) -> Answer
-    ensures { λ r. ⌜ Leaves (Transfer.transferred (planOf plan) arriving fsn point x prohibits (areas (now (links .entry)) (now (marks .entry)) (now (spans .entry)) (now (rings .entry)) (now (rows .entry)) (now (arrivals .entry)) (now (reports .entry)))) r (areas (now (links .exit)) (now (marks .exit)) (now (spans .entry)) (now (rings .entry)) (now (rows .entry)) (now (arrivals .entry)) (now (reports .exit))) ⌝ }
+    ensures { λ r. ⌜ Leaves (Transfer.transferred (planOf plan) arriving fsn point x prohibits (before links marks spans rings rows arrivals reports)) r
+        (after links marks spans rings rows arrivals reports) ⌝ }
 {
     if !counts(plan, marks, point, x, prohibits) {
         take_message(links, arriving, fsn);

@@ -11,8 +11,8 @@ use borrow.Author.Tests.{leb-false}
 use Rattle.plan.specs.declared.data.Plan.{Plan}
 use Rattle.plan.proofs.Split.{both-false}
 use Rattle.replies.proofs.Rows.{none-applies}
-use Rattle.linkrecords.specs.LinkRecords.{recordAt}
-use Rattle.rings.specs.Ring.{countOf}
+use Rattle.area_links.specs.LinkRecords.{recordAt}
+use Rattle.queue_rings.specs.Ring.{countOf}
 use Rattle.lookup.specs.Lookup.{isLink}
 use Rattle.numbers.specs.Numbers.{oneMore}
 use Rattle.sending.specs.Send as Send

@@ -1,34 +1,39 @@
--- "Send (open): the first unsent message leaves with the next FSN, and stays in the queue. None unsent, or 127 unacknowledged:
--- reply 5."
+-- "Send (open): the first unsent message leaves with the next FSN, counted modulo 128 on from the last acknowledged, and stays in the queue.
+-- None unsent, or 127 unacknowledged: reply 5." (R101, R102, R103, R104, R105)
 use Prim.Native.Nat.{ℕ, _/_, _%_}
 use mathlib.Core.Bool.{false, cond, not, _||_}
 use mathlib.Core.List.{List, [], _∷_}
 use lib.Dec.{eqb, ltb, leb}
 use lib.ListN.{length}
+use Rattle.constants.specs.Constants.{linkCount, stateOpen}
 use Rattle.plan.specs.declared.data.Plan.{Plan}
-use Rattle.slotrows.specs.declared.Slot.{Slot}
-use Rattle.linkrecords.specs.LinkRecords.{recordAt, withSent}
-use Rattle.slotrows.specs.SlotRows.{slotAt}
-use Rattle.rings.specs.Ring.{countOf, atOf}
-use Rattle.slots.specs.Message.{copied, copiedSize}
+use Rattle.area_slots.specs.declared.Slot.{Slot}
+use Rattle.area_numbers.specs.LinkWords.{withSent}
+use Rattle.area_links.specs.LinkRecords.{recordAt}
+use Rattle.area_slots.specs.SlotRows.{slotAt}
+use Rattle.queue_rings.specs.Ring.{countOf, atOf}
+use Rattle.queue_slots.specs.Message.{copied, copiedSize}
 use Rattle.wire.specs.declared.header.Label.{Label}
-use Rattle.network.specs.declared.management.MessageRead.{MessageRead}
-use Rattle.network.specs.declared.management.MessageRead.the-variants.{Read, Malformed}
-use Rattle.network.specs.Management.{listed, octetsOf, writtenInto, writtenCount}
+use Rattle.wire_messages.specs.declared.management.MessageRead.{MessageRead}
+use Rattle.wire_messages.specs.declared.management.MessageRead.the-variants.{Read, Malformed}
+use Rattle.wire_writing.specs.Writing.{octetsOf, writtenInto, writtenCount}
+use Rattle.wire_messages.specs.Management.{listed}
 use Rattle.replies.specs.declared.Answer.{Answer}
-use Rattle.replies.specs.Reply.{row, first, plain, ifDone}
+use Rattle.replies.specs.Reply.{Row, row, first, plain, ifDone}
 use Rattle.lookup.specs.Lookup.{isLink}
 use Rattle.numbers.specs.Numbers.{oneMore, nextNumber}
 
--- the reply: 1, 2, 5
-unfoldable pub replyOf : Plan → List ℕ → List ℕ → ℕ → ℕ → ℕ
-replyOf plan links spans link room =
-    first
-    (row 1 (leb 32 link || ltb room 273)
+-- the reply: 1, 2, 5; on an open link, with a message unsent, and fewer than 127 unacknowledged (R22, R23, R101, R105)
+abbrev pub refusalsOf : Plan → List ℕ → List ℕ → ℕ → ℕ → List Row
+refusalsOf plan links spans link room =
+    row 1 (leb linkCount link || ltb room 273)
     ∷ row 2 (not (isLink plan link))
-    ∷ row 5 (not (eqb (recordAt links link .state) 2)
+    ∷ row 5 (not (eqb (recordAt links link .state) stateOpen)
     || (leb (countOf spans link) (recordAt links link .sent) || leb 127 (recordAt links link .sent)))
-    ∷ [])
+    ∷ []
+
+unfoldable pub replyOf : Plan → List ℕ → List ℕ → ℕ → ℕ → ℕ
+replyOf plan links spans link room = first (refusalsOf plan links spans link room)
 
 -- the links after it: one message more is sent
 unfoldable pub linksAfter : Plan → List ℕ → List ℕ → ℕ → ℕ → List ℕ
@@ -43,7 +48,7 @@ firstUnsent links spans rings link = atOf spans rings link (recordAt links link 
 abbrev pub heldMessage : Slot → MessageRead
 heldMessage known = listed (known .heading % 256) (known .field % 256) (known .field / 256 % 256)
 
--- its label: "DPC adjacent point, OPC ours"
+-- its label: the DPC is the point that it goes to, the OPC is ours (R30)
 abbrev pub heldLabel : Plan → Slot → Label
 heldLabel plan known = record { dpc = known .point % 16384; opc = plan .code; sls = known .sls % 16 }
 
@@ -62,7 +67,7 @@ heldCount plan known out = heldCountBy plan known out (heldMessage known)
 abbrev pub heldOut : Plan → Slot → List ℕ → List ℕ
 heldOut plan known out = heldOutBy plan known out (heldMessage known)
 
--- how many octets leave of the message in a slot: "Messages passed on keep all their octets."
+-- how many octets leave of the message in a slot: "Messages passed on keep all their octets." (R68)
 unfoldable pub slotCount : Plan → List ℕ → ℕ → List ℕ → ℕ
 slotCount plan rows slot out =
     cond (ltb slot 192)

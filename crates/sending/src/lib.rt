@@ -1,25 +1,28 @@
 // Send: the first unsent message of a link leaves, and stays in the queue.
+use area_links::load_link;
+use area_numbers::store_sent;
+use area_slots::Slot;
+use area_slots::load_slot;
+use constants::LINKS;
+use constants::OPEN;
 use counting::next;
-use linkrecords::load_link;
-use linkrecords::store_sent;
 use lookup::is_link;
-use network::management::MessageRead;
-use network::management::listed;
-use network::management::write_message;
 use numbers::next_number;
-use planwords::read::code;
-use planwords::read::ni;
+use plan_words::read::code;
+use plan_words::read::ni;
+use queue_rings::ring::at;
+use queue_rings::ring::count;
+use queue_slots::message::copy_octets;
 use replies::Answer;
 use replies::plain;
-use rings::ring::at;
-use rings::ring::count;
-use slotrows::Slot;
-use slotrows::load_slot;
-use slots::message::copy_octets;
 use wire::header::Label;
-ghost use Rattle.planwords.specs.Words.{planOf};
+use wire_messages::management::MessageRead;
+use wire_messages::management::listed;
+use wire_writing::write_message;
+ghost use Rattle.plan_words.specs.Words.{planOf};
 ghost use mathlib.Core.Path.{_≡_};
 ghost use lib.ListN.{length};
+ghost use Rattle.replies.specs.Areas.{old, new};
 ghost use Rattle.sending.specs.Send as Send;
 
 // The reply.
@@ -30,9 +33,9 @@ fn send_reply(
     link: u8,
     room: usize,
 ) -> u8
-    ensures { λ r. ⌜ r ≡ Send.replyOf (planOf plan) (now (links .entry)) (now (spans .entry)) link room ⌝ }
+    ensures { λ r. ⌜ r ≡ Send.replyOf (planOf plan) (old links) (old spans) link room ⌝ }
 {
-    if 32 <= link {
+    if LINKS <= link {
         return 1;
     }
     if room < 273 {
@@ -42,7 +45,7 @@ fn send_reply(
         return 2;
     }
     let known = load_link(links, link);
-    if known.state != 2 {
+    if known.state != OPEN {
         return 5;
     }
     if count(spans, link) <= known.sent as u16 {
@@ -56,8 +59,8 @@ fn send_reply(
 
 // A management message as octets; how many they are.
 fn write_held(plan: &[u16; 1024], known: Slot, out: &mut [u8]) -> usize
-    ensures { λ r. ⌜ r ≡ Send.heldCount (planOf plan) known (now (out .entry)) ⌝ }
-    ensures { λ r. ⌜ now (out .exit) ≡ Send.heldOut (planOf plan) known (now (out .entry)) ⌝ }
+    ensures { λ r. ⌜ r ≡ Send.heldCount (planOf plan) known (old out) ⌝ }
+    ensures { λ r. ⌜ new out ≡ Send.heldOut (planOf plan) known (old out) ⌝ }
 {
     let heading = (known.heading % 256) as u8;
     let low = (known.field % 256) as u8;
@@ -83,8 +86,8 @@ fn write_slot(
     slot: u8,
     out: &mut [u8],
 ) -> usize
-    ensures { λ r. ⌜ r ≡ Send.slotCount (planOf plan) (now (rows .entry)) slot (now (out .entry)) ⌝ }
-    ensures { λ r. ⌜ now (out .exit) ≡ Send.slotOut (planOf plan) (now (rows .entry)) (now (octets .entry)) slot (now (out .entry)) ⌝ }
+    ensures { λ r. ⌜ r ≡ Send.slotCount (planOf plan) (old rows) slot (old out) ⌝ }
+    ensures { λ r. ⌜ new out ≡ Send.slotOut (planOf plan) (old rows) (old octets) slot (old out) ⌝ }
 {
     let known = load_slot(rows, slot);
     if slot < 192 {
@@ -104,9 +107,9 @@ pub fn send(
     link: u8,
     out: &mut [u8],
 ) -> Answer
-    ensures { λ r. ⌜ r ≡ Send.answerOf (planOf plan) (now (links .entry)) (now (spans .entry)) (now (rings .entry)) (now (rows .entry)) link (now (out .entry)) ⌝ }
-    ensures { λ r. ⌜ now (links .exit) ≡ Send.linksAfter (planOf plan) (now (links .entry)) (now (spans .entry)) link (length (now (out .entry))) ⌝ }
-    ensures { λ r. ⌜ now (out .exit) ≡ Send.outAfter (planOf plan) (now (links .entry)) (now (spans .entry)) (now (rings .entry)) (now (rows .entry)) (now (octets .entry)) link (now (out .entry)) ⌝ }
+    ensures { λ r. ⌜ r ≡ Send.answerOf (planOf plan) (old links) (old spans) (old rings) (old rows) link (old out) ⌝ }
+    ensures { λ r. ⌜ new links ≡ Send.linksAfter (planOf plan) (old links) (old spans) link (length (old out)) ⌝ }
+    ensures { λ r. ⌜ new out ≡ Send.outAfter (planOf plan) (old links) (old spans) (old rings) (old rows) (old octets) link (old out) ⌝ }
 {
     let reply = send_reply(plan, links, spans, link, out.len());
     if 0 < reply {

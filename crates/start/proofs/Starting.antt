@@ -5,7 +5,7 @@ use Prim.Native.Nat.{_≤_, _<_}
 use native.Mathlib.Omega.{arith}
 use lib.Dec.{eqb}
 use borrow.Author.Tests.{eq-eqb, ne-eqb}
-use Rattle.configuration.specs.declared.configure.Configured.{Configured}
+use Rattle.plan_configuration.specs.declared.configure.Configured.{Configured}
 use Rattle.replies.specs.Reply.{ifDone}
 
 module _ {A : Type 0} (made said : Configured) (same : made ≡ said) where

@@ -1,11 +1,11 @@
 // A fresh node: what an accepted configuration leaves in the lent areas.
-use configuration::configure::configure;
-use planstore::store;
-use store::fresh::fresh;
+use plan_configuration::configure::configure;
+use plan_store::store;
+use queue_store::fresh::fresh;
 ghost use mathlib.Core.Path.{_≡_};
-ghost use Rattle.planwords.specs.Words.{planAt, planOf};
-ghost use Rattle.planstore.specs.Layout.{wordsOf};
-ghost use Rattle.configuration.specs.Configure.{configured};
+ghost use Rattle.plan_words.specs.Words.{planAt, planOf};
+ghost use Rattle.plan_store.specs.Layout.{wordsOf};
+ghost use Rattle.plan_configuration.specs.Configure.{configured};
 ghost use Rattle.replies.specs.Reply.{ifDone};
 ghost use Rattle.start.specs.Start as Start;
 
@@ -54,7 +54,8 @@ pub fn start(
     ensures { λ r. ⌜ now (marks .exit) ≡ ifDone (configured (now (text .entry)) .fault) (Start.freshMarks (now (marks .entry))) (now (marks .entry)) ⌝ }
     ensures { λ r. ⌜ now (spans .exit) ≡ ifDone (configured (now (text .entry)) .fault) (Start.freshSpans (now (spans .entry))) (now (spans .entry)) ⌝ }
     ensures { λ r. ⌜ now (rings .exit) ≡ ifDone (configured (now (text .entry)) .fault) (Start.freshRings (now (rings .entry))) (now (rings .entry)) ⌝ }
-    ensures { λ r. ⌜ now (arrivals .exit) ≡ ifDone (configured (now (text .entry)) .fault) (Start.freshArrivals (now (arrivals .entry))) (now (arrivals .entry)) ⌝ }
+    ensures { λ r. ⌜ now (arrivals .exit) ≡
+        ifDone (configured (now (text .entry)) .fault) (Start.freshArrivals (now (arrivals .entry))) (now (arrivals .entry)) ⌝ }
     ensures { λ r. ⌜ planAt (now (plan .exit)) ≡ ifDone (configured (now (text .entry)) .fault) (configured (now (text .entry)) .plan) (planOf plan) ⌝ }
 {
     let made = configure(text);

@@ -27,7 +27,7 @@ until mark text at to =
     let end = at + indexOf mark part in
     record { end = end; next = cond (marked mark part) (end + 1) end; closed = marked mark part }
 
--- the line that begins at a place: up to LF or the end of the text
+-- the line that begins at a place: up to LF or the end of the text (R159, R162, R207)
 abbrev pub lineAt : List ℕ → ℕ → Part
 lineAt text at = until lf text at (length text)
 
@@ -40,7 +40,7 @@ abbrev pub onFirst : ℕ → List (List ℕ) → List (List ℕ)
 onFirst x [] = (x ∷ []) ∷ []
 onFirst x (first ∷ rest) = (x ∷ first) ∷ rest
 
--- "parted by tabs": all that stands between the marks of a text, in order
+-- "parted by tabs" (R158): all that stands between the marks of a text, in order
 unfoldable pub split : ℕ → List ℕ → List (List ℕ)
 split mark [] = [] ∷ []
 split mark (x ∷ text) = cond (eqb x mark) ([] ∷ split mark text) (onFirst x (split mark text))

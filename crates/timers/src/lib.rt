@@ -1,11 +1,13 @@
 // Which timers run, for the host to read after a call.
-use flags::flag;
-use linkrecords::LinkRecord;
-use linkrecords::load_link;
+use area_flags::flag;
+use area_links::LinkRecord;
+use area_links::load_link;
+use constants::T6;
+use constants::T8;
 use lookup::is_link;
 use lookup::rank_by;
-use planwords::find::find;
-ghost use Rattle.planwords.specs.Words.{planOf};
+use plan_words::find::find;
+ghost use Rattle.plan_words.specs.Words.{planOf};
 ghost use mathlib.Core.Path.{_≡_};
 ghost use Rattle.timers.specs.Timers as Timers;
 
@@ -36,7 +38,7 @@ pub fn link_timer(plan: &[u16; 1024], links: &[u32; 256], link: u8, timer: u8) -
 pub fn destination_timer(plan: &[u16; 1024], marks: &[u32; 512], x: u16, timer: u8) -> bool
     ensures { λ r. ⌜ r ≡ Timers.destinationTimer (planOf plan) (now (marks .entry)) x timer ⌝ }
 {
-    if !planwords::read::given(plan) {
+    if !plan_words::read::given(plan) {
         return false;
     }
     let found = find(plan, x);
@@ -44,8 +46,8 @@ pub fn destination_timer(plan: &[u16; 1024], marks: &[u32; 512], x: u16, timer: 
         return false;
     }
     match timer {
-        6 => flag(marks, found.place, 4),
-        8 => flag(marks, found.place, 5),
+        6 => flag(marks, found.place, T6),
+        8 => flag(marks, found.place, T8),
         _ => false,
     }
 }
@@ -54,7 +56,7 @@ pub fn destination_timer(plan: &[u16; 1024], marks: &[u32; 512], x: u16, timer: 
 pub fn route_timer(plan: &[u16; 1024], marks: &[u32; 512], x: u16, set: u8) -> bool
     ensures { λ r. ⌜ r ≡ Timers.routeTimer (planOf plan) (now (marks .entry)) x set ⌝ }
 {
-    if !planwords::read::given(plan) {
+    if !plan_words::read::given(plan) {
         return false;
     }
     let found = find(plan, x);

@@ -16,7 +16,7 @@ unfolding linksAfter queuesAfter
 returns c =
     let reply = c .before .acknowledge-reply in
     let not-done = refused (reply .result) _ (reply .ensures) (c .if1 .taken) in
-    (reply .ensures, (simp not-done, (simp not-done, simp not-done)))
+    (reply .ensures, (simp not-done, simp not-done))
 
 load-link-requires : tie.Need-load-link-requires
 load-link-requires c κs = search needs
@@ -51,10 +51,7 @@ returns-2 c =
       (
         c .store-acknowledged .ensures
             ∙ simp (none, at-store .store-sent .ensures, at-store .before .left-sent .ensures, known .ensures),
-        (
-          retire .ensures .0 ∙ simp (none, many .ensures, known .ensures),
-          retire .ensures .1 ∙ simp (none, many .ensures, known .ensures),
-        ),
+        simp (none, retire .ensures, many .ensures, known .ensures),
       ),
     )
 

@@ -7,10 +7,10 @@ use mathlib.Core.Path.{_≡_, sym, ap, _∙_}
 use lib.Dec.{eqb}
 use borrow.Author.Needs.{needs}
 use borrow.Author.Tests.{le-leb, lt-leb, eq-eqb, ne-eqb, not-true, not-false}
-use Rattle.planwords.specs.Words.{planAt}
+use Rattle.plan_words.specs.Words.{planAt}
 use Rattle.counting.specs.Counting.{inRange}
 use Rattle.replies.specs.Reply.{row, first}
-use Rattle.linkrecords.specs.declared.LinkRecord.{LinkRecord}
+use Rattle.area_links.specs.declared.LinkRecord.{LinkRecord}
 use Rattle.acknowledging.specs.Acknowledge.{replyOf}
 use Rattle.lookup.proofs.FirstRows.{link-out-of-range, other-out-of-range, not-configured, configured}
 use Rattle.acknowledging.proofs.acknowledge_reply.Statement.{statement}

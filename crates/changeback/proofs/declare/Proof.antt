@@ -2,7 +2,7 @@
 -- Assumes nothing.
 use borrow.Author.Needs.{needs}
 use native.Mathlib.Omega.{arith}
-use Rattle.planwords.specs.Words.{planAt}
+use Rattle.plan_words.specs.Words.{planAt}
 use Rattle.changeback.proofs.Declaring.{not-declared, is-declared}
 use Rattle.changeback.proofs.declare.Statement.{statement}
 use Rattle.changeback.proofs.declare.Tie as tie

@@ -2,7 +2,7 @@
 -- in.
 -- Assumes nothing.
 use borrow.Author.Needs.{needs}
-use Rattle.planwords.specs.Words.{planAt}
+use Rattle.plan_words.specs.Words.{planAt}
 use Rattle.replies.specs.Areas.{areas}
 use Rattle.changeback.proofs.Entering.{refused-first, refused-lacking, comes-in}
 use Rattle.changeback.proofs.into_service.Statement.{statement}

@@ -1,7 +1,7 @@
 -- `changeover::fail` meets its contract: it is refused by its reply, or the link goes out if it waits, else a changeover begins.
 -- Assumes nothing.
 use borrow.Author.Needs.{needs}
-use Rattle.planwords.specs.Words.{planAt}
+use Rattle.plan_words.specs.Words.{planAt}
 use Rattle.replies.specs.Areas.{areas}
 use Rattle.changeover.proofs.Failing.{failure-refused, waiting-fails, other-fails}
 use Rattle.changeover.proofs.fail.Statement.{statement}

@@ -1,7 +1,7 @@
 -- `changeover::fail_open` meets its contract: the COO where it can be made, and the link changing with the timer that follows.
 -- Assumes nothing.
 use borrow.Author.Needs.{needs}
-use Rattle.planwords.specs.Words.{planAt}
+use Rattle.plan_words.specs.Words.{planAt}
 use Rattle.replies.specs.Areas.{areas}
 use Rattle.changeover.proofs.Failing.{open-fails}
 use Rattle.changeover.proofs.fail_open.Statement.{statement}

@@ -3,7 +3,7 @@
 use borrow.Author.Needs.{needs}
 use borrow.Author.Tests.{eq-eqb, ne-eqb}
 use mathlib.Core.Path.{_≡_, sym, ap, _∙_}
-use Rattle.planwords.specs.Words.{planAt}
+use Rattle.plan_words.specs.Words.{planAt}
 use Rattle.wire.specs.declared.header.HeaderRead.the-variants.{Read}
 use Rattle.discrimination.specs.Discrimination.{fromLink, fromLinkBy}
 use Rattle.discrimination.proofs.from_link.Statement.{statement}

@@ -4,7 +4,7 @@ use borrow.Author.Needs.{needs}
 use borrow.Author.Tests.{eq-eqb, ne-eqb}
 use mathlib.Core.Path.{_≡_, sym, ap, _∙_}
 use native.Mathlib.Omega.{arith}
-use Rattle.planwords.specs.Words.{planAt}
+use Rattle.plan_words.specs.Words.{planAt}
 use Rattle.discrimination.specs.Discrimination.{managed, ours}
 use Rattle.discrimination.proofs.ours.Statement.{statement}
 use Rattle.discrimination.proofs.ours.Tie as tie

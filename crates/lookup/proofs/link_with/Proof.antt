@@ -8,8 +8,8 @@ use Prim.Native.Nat.{ℕ, _-_, _≤_}
 use native.Mathlib.Omega.{arith}
 use lib.ListN.{length, getD}
 use Rattle.plan.specs.Data.{setAt}
-use Rattle.planwords.specs.Words.{planAt}
-use Rattle.planwords.proofs.Said.{some-links}
+use Rattle.plan_words.specs.Words.{planAt}
+use Rattle.plan_words.proofs.Said.{some-links}
 use Rattle.lookup.specs.Lookup.{allOf}
 use Rattle.lookup.proofs.Walks.{Passed, passed-none, passed-one, walk-hit, walk-last, links-walk, link-passes}
 use Rattle.lookup.proofs.link_with.Statement.{statement}

@@ -2,8 +2,8 @@
 use borrow.Author.Needs.{needs}
 use borrow.Author.Tests.{lt-ltb, le-ltb}
 use mathlib.Core.Path.{_∙_}
-use Rattle.planwords.specs.Words.{planAt}
-use Rattle.planwords.proofs.Said.{routes-within}
+use Rattle.plan_words.specs.Words.{planAt}
+use Rattle.plan_words.proofs.Said.{routes-within}
 use Rattle.lookup.specs.Lookup.{rankBy}
 use Rattle.lookup.proofs.rank_by.Statement.{statement}
 use Rattle.lookup.proofs.rank_by.Tie as tie

@@ -3,7 +3,7 @@
 use borrow.Author.Needs.{needs}
 use mathlib.Core.Logic.{⊎-elim}
 use Prim.Native.Nat.{_-_}
-use Rattle.planwords.specs.Words.{planAt}
+use Rattle.plan_words.specs.Words.{planAt}
 use Rattle.lookup.specs.Lookup.{setTo}
 use Rattle.lookup.proofs.Walks.{Passed, passed-none, passed-one, walk-hit, walk-last, sets-walk, set-passes}
 use Rattle.lookup.proofs.set_to.Statement.{statement}

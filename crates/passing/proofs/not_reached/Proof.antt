@@ -5,9 +5,9 @@ use borrow.Author.Tests.{not-true, not-false}
 use mathlib.Core.Bool.{true, false}
 use mathlib.Core.Logic.{⊎-elim}
 use mathlib.Core.Path.{_≡_, sym, _∙_}
-use Rattle.planwords.specs.Words.{planAt}
+use Rattle.plan_words.specs.Words.{planAt}
 use Rattle.replies.specs.Areas.{Areas, areas}
-use Rattle.making.specs.Make.{Held, held}
+use Rattle.management_making.specs.Make.{Held, held}
 use Rattle.passing.specs.Pass.{marksTold}
 use Rattle.passing.proofs.Unreached.{only-taken, Asked, asked, not-told, marks-are, is-told}
 use Rattle.passing.proofs.not_reached.Statement.{statement}

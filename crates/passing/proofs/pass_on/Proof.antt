@@ -3,11 +3,11 @@
 use borrow.Author.Needs.{needs}
 use mathlib.Core.Path.{ap}
 use Prim.Native.Nat.{ℕ}
-use Rattle.planwords.specs.Words.{planAt}
-use Rattle.ways.specs.declared.Direction.{Direction}
+use Rattle.plan_words.specs.Words.{planAt}
+use Rattle.route_ways.specs.declared.Direction.{Direction}
 use Rattle.replies.specs.Areas.{Areas, areas}
-use Rattle.passage.proofs.Flagged.{ring-there}
-use Rattle.passage.proofs.Placing.{no-way, Placed, placed}
+use Rattle.passing_passage.proofs.Flagged.{ring-there}
+use Rattle.passing_passage.proofs.Placing.{no-way, Placed, placed}
 use Rattle.passing.proofs.Passing.{passed-nowhere, passed-lacking, passed-on}
 use Rattle.passing.proofs.pass_on.Statement.{statement}
 use Rattle.passing.proofs.pass_on.Tie as tie

@@ -5,7 +5,7 @@ use mathlib.Core.Path.{_≡_, refl}
 use mathlib.Core.List.{List}
 use Prim.Native.Nat.{ℕ}
 use lib.ListN.{length}
-use Rattle.planwords.specs.Words.{planAt}
+use Rattle.plan_words.specs.Words.{planAt}
 use Rattle.discrimination.specs.declared.Came.{Came}
 use Rattle.discrimination.specs.declared.Came.the-variants.{Malformed, Foreign, Delivered, Managed, Passed}
 use Rattle.replies.specs.declared.Answer.{Answer}

@@ -7,10 +7,10 @@ use mathlib.Core.Path.{_≡_, sym, ap, _∙_}
 use lib.Dec.{eqb, leb}
 use borrow.Author.Needs.{needs}
 use borrow.Author.Tests.{lt-ltb, le-ltb, le-leb, lt-leb, eq-eqb, ne-eqb}
-use Rattle.planwords.specs.Words.{planAt}
+use Rattle.plan_words.specs.Words.{planAt}
 use Rattle.replies.specs.Reply.{row, first}
-use Rattle.linkrecords.specs.declared.LinkRecord.{LinkRecord}
-use Rattle.rings.specs.Ring.{countOf}
+use Rattle.area_links.specs.declared.LinkRecord.{LinkRecord}
+use Rattle.queue_rings.specs.Ring.{countOf}
 use Rattle.sending.specs.Send.{replyOf}
 use Rattle.lookup.proofs.FirstRows.{link-out-of-range, other-out-of-range, not-configured, configured}
 use Rattle.sending.proofs.send_reply.Statement.{statement}

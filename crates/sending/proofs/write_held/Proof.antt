@@ -3,7 +3,7 @@
 use Prim.Native.Nat.{_-_}
 use mathlib.Core.Path.{ap, sym, _∙_}
 use borrow.Author.Needs.{needs}
-use Rattle.planwords.specs.Words.{planAt}
+use Rattle.plan_words.specs.Words.{planAt}
 use Rattle.sending.specs.Send.{heldCountBy, heldOutBy}
 use Rattle.sending.proofs.write_held.Statement.{statement}
 use Rattle.sending.proofs.write_held.Tie as tie

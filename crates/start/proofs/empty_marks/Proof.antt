@@ -2,7 +2,7 @@
 -- Assumes nothing.
 use borrow.Author.Needs.{needs}
 use Prim.Native.Nat.{_-_}
-use Rattle.store.proofs.Emptying.{Emptying, one-more, all-emptied}
+use Rattle.queue_store.proofs.Emptying.{Emptying, one-more, all-emptied}
 use Rattle.start.proofs.empty_marks.Statement.{statement}
 use Rattle.start.proofs.empty_marks.Tie as tie
 

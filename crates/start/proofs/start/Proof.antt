@@ -5,10 +5,10 @@ use mathlib.Core.Path.{refl, ap, _∙_}
 use mathlib.Core.List.{List}
 use Prim.Native.Nat.{ℕ}
 use Rattle.plan.specs.declared.data.Plan.{Plan}
-use Rattle.planwords.specs.Words.{planAt}
-use Rattle.planstore.specs.Layout.{wordsOf}
-use Rattle.configuration.specs.declared.configure.Configured.{Configured}
-use Rattle.configuration.specs.Configure.{configured}
+use Rattle.plan_words.specs.Words.{planAt}
+use Rattle.plan_store.specs.Layout.{wordsOf}
+use Rattle.plan_configuration.specs.declared.configure.Configured.{Configured}
+use Rattle.plan_configuration.specs.Configure.{configured}
 use Rattle.start.specs.Start.{started, freshLinks, freshMarks, freshSpans, freshRings, freshArrivals}
 use Rattle.start.proofs.Starting.{kept, renewed}
 use Rattle.start.proofs.start.Statement.{statement}

@@ -4,7 +4,7 @@ use borrow.Author.Needs.{needs}
 use borrow.Author.Tests.{ne-eqb, not-true, not-false}
 use mathlib.Core.Bool.{true}
 use mathlib.Core.Path.{_≡_, sym, _∙_}
-use Rattle.planwords.specs.Words.{planAt}
+use Rattle.plan_words.specs.Words.{planAt}
 use Rattle.plan.specs.Find.{isFound}
 use Rattle.timers.specs.Timers.{destinationTimer}
 use Rattle.timers.proofs.destination_timer.Statement.{statement}

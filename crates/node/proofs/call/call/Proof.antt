@@ -2,16 +2,16 @@
 -- Assumes nothing.
 use borrow.Author.Needs.{needs}
 use mathlib.Core.Path.{_≡_, _∙_}
-use Rattle.planwords.specs.Words.{planAt}
+use Rattle.plan_words.specs.Words.{planAt}
 use Rattle.replies.specs.declared.Answer.{Answer}
 use Rattle.replies.specs.Areas.{areas}
 use Rattle.node.specs.declared.call.Event.{Event}
-use Rattle.node.specs.declared.call.Event.the-variants.{IntoService, Failure, Send, Acknowledgement, Received, FromHost, T1, T2, T3, T4, T6, T8, T10, RouteList}
+use Rattle.node.specs.declared.call.Event.the-variants.{IntoService, Failure, Send, Acknowledgement, Received, FromHost, T1, T2, T3, T4, T6, T8, T10}
 use Rattle.node.specs.Memory.{Memory, memory, Gives}
 use Rattle.node.specs.Call.{callOf, receives, takesOver}
 use Rattle.node.proofs.Apart.{changeover-leaves, t6-leaves, t10-leaves, sent-leaves, octets-apart}
 use Rattle.node.proofs.Giving.{with-areas, areas-alone, told-as}
-use Rattle.node.proofs.Events.{gives-send, gives-acknowledgement, gives-wait, gives-t8, gives-list}
+use Rattle.node.proofs.Events.{gives-send, gives-acknowledgement, gives-wait, gives-t8}
 use Rattle.node.proofs.call.call.Statement.{statement}
 use Rattle.node.proofs.call.call.Tie as tie
 
@@ -119,12 +119,6 @@ enum-known-event-12 c = search needs
 
 expire-t10-requires : tie.Need-expire-t10-requires
 expire-t10-requires c κs = search needs
-
-enum-told-2 : tie.Need-enum-told-2
-enum-told-2 c = search needs
-
-route-list-requires : tie.Need-route-list-requires
-route-list-requires c κs = search needs
 
 same-length : tie.Need-same-length
 same-length c = search needs
@@ -289,20 +283,6 @@ returns-13 c =
     told s (T10 (e .0 .0) (e .0 .1 .0)) (e .1) _ _
     (areas-alone _ _ _ (before s) (t10-leaves (planAt (a .plan .now)) (before s .areas) (e .0 .0) (e .0 .1 .0) _ _ (o .ensures)))
 
-same-length-8 : tie.Need-same-length-8
-same-length-8 c = search needs
-
-returns-14 : tie.Need-returns-14
-unfolding callOf
-returns-14 c =
-    let o = c .before .before .route-list in
-    let at-event = c .before .before .before .before .before .before in
-    let e = at-event .enum-told2 .given in
-    let s = at-event .before .before .before .before .before in
-    let a = s .args in
-    told s RouteList (e .1) _ _
-    (gives-list (planAt (a .plan .now)) (before s) (o .result) (o .last .1 .1 .1 .0) (o .ensures))
-
 pub call-spec : {M : Type 1} → statement M
 call-spec =
     tie.close
@@ -337,8 +317,6 @@ call-spec =
     plain-requires-4
     enum-known-event-12
     expire-t10-requires
-    enum-told-2
-    route-list-requires
     same-length
     returns
     same-length-2
@@ -358,6 +336,4 @@ call-spec =
     same-length-7
     returns-11
     returns-12
-    returns-13
-    same-length-8
-    returns-14)
+    returns-13)

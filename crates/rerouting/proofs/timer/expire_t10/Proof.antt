@@ -2,7 +2,7 @@
 -- Assumes nothing.
 use borrow.Author.Needs.{needs}
 use mathlib.Core.List.{[]}
-use Rattle.planwords.specs.Words.{planAt}
+use Rattle.plan_words.specs.Words.{planAt}
 use Rattle.replies.specs.Areas.{areas}
 use Rattle.rerouting.proofs.Expiring.{t10-refused, t10-sends}
 use Rattle.rerouting.proofs.timer.expire_t10.Statement.{statement}

@@ -3,7 +3,7 @@
 use borrow.Author.Needs.{needs}
 use mathlib.Core.List.{[]}
 use mathlib.Core.Path.{ap}
-use Rattle.planwords.specs.Words.{planAt}
+use Rattle.plan_words.specs.Words.{planAt}
 use Rattle.plan.specs.declared.find.Found.{Found}
 use Rattle.replies.specs.Areas.{areas}
 use Rattle.rerouting.proofs.Expiring.{t6-short, t6-refused, t6-ends}

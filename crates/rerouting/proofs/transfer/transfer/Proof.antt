@@ -2,7 +2,7 @@
 -- Assumes nothing.
 use borrow.Author.Needs.{needs}
 use borrow.Author.Tests.{not-true, not-false}
-use Rattle.planwords.specs.Words.{planAt}
+use Rattle.plan_words.specs.Words.{planAt}
 use Rattle.replies.specs.Areas.{areas}
 use Rattle.rerouting.proofs.Transferring.{no-effect, takes-effect}
 use Rattle.rerouting.proofs.transfer.transfer.Statement.{statement}

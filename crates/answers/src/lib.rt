@@ -1,2 +1,0 @@
-// What a run writes of a call.
-pub mod answer;

@@ -1,8 +1,0 @@
-// What every statement leaves that is put into the plan. How each is put in stands in `setlines`, `linklines` and `routelines`.
-use plan::data::Plan;
-
-// The plan with the statement, fault 0; or the fault, and the plan as it was.
-pub struct Added {
-    pub fault: u8,
-    pub plan: Plan,
-}

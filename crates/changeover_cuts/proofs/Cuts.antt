@@ -1,0 +1,24 @@
+-- How a queue is cut by a number: in range, or not.
+-- Assumes nothing.
+use mathlib.Core.Path.{_≡_, sym, ap, _∙_}
+use mathlib.Core.Bool.{Bool, true, false, cond}
+use Prim.Native.Nat.{ℕ}
+use Rattle.counting.specs.Counting.{inRange, distance}
+use Rattle.area_links.specs.declared.LinkRecord.{LinkRecord}
+use Rattle.changeover_cuts.specs.Cuts.{cut, cutAt}
+
+-- what the code's test says, and the cut that follows
+module _ (known : LinkRecord) (f : ℕ) (inside : Bool) (tested : inside ≡ inRange 128 (known .acknowledged) (known .sent) f) where
+  by-test : (said : Bool) → inside ≡ said
+      → cond said (cut (distance 128 (known .acknowledged) f) 0 3) (cut 0 (known .sent) 3) ≡ cutAt known f
+  unfolding cutAt
+  by-test said e =
+      ap (λ (t : Bool). cond t (cut (distance 128 (known .acknowledged) f) 0 3) (cut 0 (known .sent) 3)) (sym e ∙ tested)
+
+  -- "F in range: messages up to F are retired and the rest move"
+  pub cut-in : inside ≡ true → (steps : ℕ) → steps ≡ distance 128 (known .acknowledged) f → cut steps 0 3 ≡ cutAt known f
+  cut-in e steps counted = ap (λ (n : ℕ). cut n 0 3) counted ∙ by-test true e
+
+  -- "F not in range: sent ones are dropped, reason 3"
+  pub cut-out : inside ≡ false → cut 0 (known .sent) 3 ≡ cutAt known f
+  cut-out e = by-test false e

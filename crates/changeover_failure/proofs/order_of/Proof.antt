@@ -1,0 +1,29 @@
+-- `changeover_failure::order_of` meets its contract: the COO carries what the link's record says was received last.
+-- Assumes nothing.
+use borrow.Author.Needs.{needs}
+use Rattle.changeover_failure.specs.Failure.{orderOf}
+use Rattle.changeover_failure.proofs.order_of.Statement.{statement}
+use Rattle.changeover_failure.proofs.order_of.Tie as tie
+
+load-link-requires : tie.Need-load-link-requires
+load-link-requires c κs = search needs
+
+adjacent-of-requires : tie.Need-adjacent-of-requires
+adjacent-of-requires c κs = search needs
+
+slc-of-requires : tie.Need-slc-of-requires
+slc-of-requires c κs = search needs
+
+cast-t7 : tie.Need-cast-t7
+cast-t7 c = search needs
+
+returns : tie.Need-returns
+unfolding orderOf
+returns c =
+    let at-slc = c .before in
+    simp (at-slc .slc-of .ensures, at-slc .before .adjacent-of .ensures, at-slc .before .before .load-link .ensures)
+
+pub order-of-spec : {M : Type 1} → statement M
+order-of-spec =
+    tie.close
+    (tie.spec load-link-requires adjacent-of-requires slc-of-requires cast-t7 returns)

@@ -1,2 +1,0 @@
-pub mod Current
-pub mod Flags

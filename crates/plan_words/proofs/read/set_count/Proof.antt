@@ -1,0 +1,29 @@
+-- `plan_words::read::set_count` meets its contract. Assumes nothing.
+use borrow.Author.Needs.{needs}
+use Rattle.plan_words.proofs.Said.{set-there, set-past}
+use Rattle.plan_words.proofs.read.set_count.Statement.{statement}
+use Rattle.plan_words.proofs.read.set_count.Tie as tie
+
+returns : tie.Need-returns
+returns c = let a = c .before .args in simp (set-past (a .plan .now) (a .set) (c .if1 .taken))
+
+mul-result : tie.Need-mul-result
+mul-result c = search needs
+
+add-result : tie.Need-add-result
+add-result c = search needs
+
+mul-result-2 : tie.Need-mul-result-2
+mul-result-2 c = search needs
+
+element-copy-out-result : tie.Need-element-copy-out-result
+element-copy-out-result c = search needs
+
+cast-result : tie.Need-cast-result
+cast-result c = search needs
+
+returns-2 : tie.Need-returns-2
+returns-2 c = let a = c .before .before .args in simp (set-there (a .plan .now) (a .set) (c .before .if1 .left))
+
+pub set-count-spec : {M : Type 1} → statement M
+set-count-spec = tie.close (tie.spec returns mul-result add-result mul-result-2 element-copy-out-result cast-result returns-2)

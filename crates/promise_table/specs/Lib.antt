@@ -1,0 +1,4 @@
+pub mod Received
+pub mod Table
+pub mod Asked
+pub mod Unchanged

@@ -1,0 +1,2 @@
+// What a run writes of a call or a question.
+pub mod answer;

@@ -1,1 +1,0 @@
-// The document's table of replies, for every event. There is no code here: definitions in specs/, theorems in proofs/.
