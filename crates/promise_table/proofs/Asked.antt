@@ -4,21 +4,22 @@ use Prim.Native.Nat.{ℕ, _≤_, _<_}
 use mathlib.Core.Bool.{Bool, true, false, cond, not}
 use mathlib.Core.Logic.{_↔_}
 use mathlib.Core.List.{List, [], _∷_}
-use mathlib.Core.Path.{_≡_, refl, sym, ap, subst, _∙_}
+use mathlib.Core.Path.{_≡_, refl, sym, ap, subst}
 use lib.Dec.{ltb}
 use lib.ListN.{length}
 use borrow.Author.Tests.{lt-ltb}
 use Rattle.plan.specs.declared.data.Plan.{Plan}
 use Rattle.replies.specs.Reply.{row, first}
+use Rattle.replies_given.specs.GivenWhen.{Gives, None}
+use Rattle.replies_given.proofs.Exactly.{given-exactly, none-exactly}
 use Rattle.route_list.specs.RouteList.{listReply, listOf, laid}
 use Rattle.node.specs.declared.ask.Question.{Question}
 use Rattle.node.specs.declared.ask.Question.the-variants.{RouteList}
 use Rattle.node.specs.Memory.{Memory, memory}
 use Rattle.node.specs.Ask.{answerTo, writtenFor, askOf}
 use Rattle.promise_table.specs.Asked.{askedRows}
-use Rattle.promise_table.proofs.Continued.{inTable}
+use Rattle.promise_table.proofs.Continued.{inTable, numbered-over}
 use Rattle.promise_table.proofs.OneOfTheTable.{first-in-table}
-use Rattle.promise_table.proofs.GivenWhen.{Gives, None, gives-first, first-gives, none-first, first-none}
 
 two-rows : (brief given : Bool) → cond brief 1 (cond given 0 2) ≡ first (row 1 brief ∷ row 2 (not given) ∷ [])
 unfolding first
@@ -50,17 +51,12 @@ module _ (plan : Plan) (question : Question) (m : Memory) where
   reply = askOf plan question m .answer .reply
 
   pub question-given-when : (n : ℕ) → 0 < n → (reply ≡ n) ↔ Gives (askedRows plan (m .out) question) n
-  question-given-when n over = (
-    λ e. first-gives (askedRows plan (m .out) question) n over (sym (question-table plan question m) ∙ e),
-    λ g. question-table plan question m ∙ gives-first (askedRows plan (m .out) question) n g,
-  )
+  question-given-when = given-exactly reply (askedRows plan (m .out) question) (question-table plan question m)
 
   pub question-done-when : (reply ≡ 0) ↔ None (askedRows plan (m .out) question)
-  question-done-when = (
-    λ e.
-        first-none (askedRows plan (m .out) question) (rows-in-table plan (m .out) question) (sym (question-table plan question m) ∙ e),
-    λ none. question-table plan question m ∙ none-first (askedRows plan (m .out) question) none,
-  )
+  question-done-when =
+      none-exactly reply (askedRows plan (m .out) question) (question-table plan question m)
+      (numbered-over (askedRows plan (m .out) question) (rows-in-table plan (m .out) question))
 
   pub question-one-of-the-table : reply ≤ 11
   question-one-of-the-table =

@@ -9,16 +9,15 @@ use lib.Dec.{ltb, leb}
 use borrow.Author.Tests.{ltb-true, leb-true, ne-eqb}
 use borrow.Table.Steps.{cases}
 use Rattle.replies.specs.Reply.{Row, row, first, ifDone}
-use Rattle.promise_table.proofs.Either.{either}
-
--- a test holds of every row's number
-abbrev pub allOf : (ℕ → Bool) → List Row → Bool
-allOf test [] = true
-allOf test (here ∷ later) = test (here .number) && allOf test later
+use Rattle.replies_given.proofs.Numbers.{allOf, overZero, all-weaker}
 
 -- every row has a number of the table, 1 to 11
 abbrev pub inTable : List Row → Bool
 inTable = allOf (λ (n : ℕ). ltb 0 n && leb n 11)
+
+-- so none is numbered 0
+pub numbered-over : (rows : List Row) → inTable rows ≡ true → overZero rows ≡ true
+numbered-over = all-weaker (λ (n : ℕ). ltb 0 n && leb n 11) (λ (n : ℕ). ltb 0 n) (λ n e. and-eq-true-iff (ltb 0 n) (leb n 11) .0 e .0)
 
 pub numbered : (here : Row) (later : List Row) → inTable (here ∷ later) ≡ true
     → (0 < here .number) × ((here .number ≤ 11) × (inTable later ≡ true))
@@ -43,11 +42,3 @@ pub with-two : (due : Bool) (n k : ℕ) (p q : Bool)
 unfolding first
 with-two true n k p q = refl
 with-two false n k p q = refl
-
--- a test that holds of 0 and of every row's number holds of the reply
-pub of-first : (test : ℕ → Bool) → test 0 ≡ true → (rows : List Row) → allOf test rows ≡ true → test (first rows) ≡ true
-unfolding first
-of-first test none [] e = none
-of-first test none (here ∷ later) e =
-    let both = and-eq-true-iff (test (here .number)) (allOf test later) .0 e in
-    either (λ (n : ℕ). test n ≡ true) (here .applies) (here .number) (first later) (both .0) (of-first test none later (both .1))

@@ -35,7 +35,7 @@ use Rattle.node.specs.Memory.{Memory, memory}
 use Rattle.promise_table.specs.Received.{pathFor, makesTFP}
 use Rattle.promise_table.specs.Unchanged.{leavesAll, withTFPOf, leftBy}
 use Rattle.promise_table.proofs.Either.{either, by-test, either-both, otherwise}
-use Rattle.promise_table.proofs.Continued.{allOf, of-first}
+use Rattle.replies_given.proofs.Numbers.{allOf, of-first}
 use Rattle.promise_table.proofs.GoesOut.{ended-done}
 use Rattle.promise_table.proofs.RouteReplies.{making}
 use Rattle.promise_table.proofs.HostReply.{places}

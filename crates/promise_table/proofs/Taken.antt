@@ -24,7 +24,7 @@ use Rattle.node.specs.Memory.{Memory, memory}
 use Rattle.node.specs.Call.{receives, callOf}
 use Rattle.promise_table.specs.Unchanged.{isTaken, withTFP, withTFPOf, leftBy}
 use Rattle.promise_table.proofs.Either.{either, otherwise}
-use Rattle.promise_table.proofs.Continued.{of-first}
+use Rattle.replies_given.proofs.Numbers.{of-first}
 use Rattle.promise_table.proofs.Judged.{judged-reply}
 use Rattle.promise_table.proofs.ManagedReply.{managedRows, managed-reply}
 use Rattle.promise_table.proofs.ReceivedReply.{before, reply-before}

@@ -1,0 +1,10 @@
+pub mod Destinations
+pub mod Numbers
+pub mod Words
+pub mod Lines
+pub mod EachLine
+pub mod Node
+pub mod Reading
+pub mod LinesMade
+pub mod Exactly
+pub mod Outcome
