@@ -99,10 +99,10 @@ struct transfer_point {
 /* ---- What comes back */
 
 struct transfer_point_answer {
-    uint8_t reply;
-    uint8_t fsn;       /* of a send: the number with which the message leaves */
     size_t octets;     /* how many stand at the start of the output: of a send, of a route list */
     size_t reports;    /* how many records stand at the start of the report area */
+    uint8_t reply;
+    uint8_t fsn;       /* of a send: the number with which the message leaves */
     bool delivers;     /* of a received message: it is for this point's own users */
 };
 

@@ -6,10 +6,8 @@ use lib.Dec.{eqb, ltb, leb}
 use Rattle.constants.specs.Constants.{linkCount, noLink}
 use Rattle.plan.specs.declared.data.Plan.{Plan}
 use Rattle.area_links.specs.LinkRecords.{recordAt, withRecord}
-use Rattle.replies.specs.Reply.{Row, row, first, done, ifDone}
+use Rattle.replies.specs.Reply.{Row, row, first, plain, done, ifDone}
 use Rattle.replies.specs.Areas.{Areas, Outcome, outcome, withLinks}
-use Rattle.numbers.specs.Numbers.{taken}
-use Rattle.numbers.specs.Taken.{takenOnly}
 use Rattle.lookup.specs.Lookup.{isLink, linkNamed}
 use Rattle.changeback_opening.specs.Opening.{runs, stopped}
 
@@ -41,8 +39,8 @@ answered plan links point slc =
     withRecord links link (stopped (recordAt links link) 4)
 
 -- CBA: "only while its CBD is unanswered, else 11" (R121)
-unfoldable pub answeredBy : Plan → ℕ → ℕ → ℕ → ℕ → ℕ → Areas → Outcome
-answeredBy plan arriving fsn point slc code a =
+unfoldable pub answeredBy : Plan → ℕ → ℕ → ℕ → Areas → Outcome
+answeredBy plan point slc code a =
     cond (answers plan (a .links) point slc code)
-    (outcome (done 0) (withLinks a (answered plan (taken (a .links) arriving fsn) point slc)))
-    (takenOnly arriving fsn 11 a)
+    (outcome (done 0) (withLinks a (answered plan (a .links) point slc)))
+    (outcome (plain 11) a)

@@ -7,7 +7,6 @@ use constants::LINKS;
 use constants::NO_LINK;
 use lookup::is_link;
 use lookup::link_named;
-use numbers::take_message;
 use replies::Answer;
 use replies::done;
 use replies::plain;
@@ -75,22 +74,18 @@ fn answer_wait(plan: &[u16; 1024], links: &mut [u32; 256], point: u16, slc: u8)
     store_link(links, link, stopped(known, 4));
 }
 
-// A CBA that came over a link with a number.
+// A CBA that came from a point.
 pub fn answer_by(
     plan: &[u16; 1024],
     links: &mut [u32; 256],
-    arriving: u8,
-    fsn: u8,
     point: u16,
     slc: u8,
     code: u8,
 ) -> Answer
-    ensures { λ r. ⌜ Leaves (Wait.answeredBy (planOf plan) arriving fsn point slc code (areas (old links) [] [] [] [] [] [])) r
+    ensures { λ r. ⌜ Leaves (Wait.answeredBy (planOf plan) point slc code (areas (old links) [] [] [] [] [] [])) r
         (areas (new links) [] [] [] [] [] []) ⌝ }
 {
-    let counts = answers(plan, links, point, slc, code);
-    take_message(links, arriving, fsn);
-    if !counts {
+    if !answers(plan, links, point, slc, code) {
         return plain(11);
     }
     answer_wait(plan, links, point, slc);

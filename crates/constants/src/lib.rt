@@ -14,6 +14,11 @@ pub const OPEN: u8 = 2;
 
 pub const CHANGING: u8 = 3;
 
+// Two of them as they stand in the word of an area.
+pub const OUT_WORD: u32 = 0;
+
+pub const OPEN_WORD: u32 = 2;
+
 // The rings behind those of the links: messages held apart, free user places, free management places.
 pub const HELD_APART: u8 = 32;
 

@@ -1,4 +1,4 @@
--- How a step is carried out, from what the code does one after the other: the answer made, the message taken, and the link out.
+-- How a step is carried out, from what the code does one after the other: the answer made, and the link out.
 -- Assumes nothing.
 use mathlib.Core.Path.{_≡_, sym, ap, _∙_}
 use mathlib.Core.Bool.{Bool, true, false, cond}
@@ -14,8 +14,6 @@ use Rattle.replies.specs.Reply.{plain, done}
 use Rattle.replies.specs.Areas.{Areas, areas, Outcome, outcome, refused, judged, Leaves}
 use Rattle.replies.proofs.Judging.{whole}
 use Rattle.replies.proofs.Leaving.{leaves}
-use Rattle.numbers.specs.Numbers.{taken}
-use Rattle.numbers.specs.Taken.{withTaken, takenOnly}
 use Rattle.management_making.specs.declared.Made.{Made}
 use Rattle.management_making.specs.Make.{Held, heldIn, withHeld, withMade, makesReply}
 use Rattle.management_making.proofs.Making.{MakeLeaves, refused-kept}
@@ -62,82 +60,69 @@ module _ (plan : Plan) (step : Step) (a : Areas) where
       simp e (ap (withHeld a) (refused-kept plan (a .links) (a .marks) (step .draft) (heldIn a) refuses)))
       (λ e. simp e)
 
-  module _ (arriving fsn : ℕ) where
-    -- what is done where it asks something
-    abbrev asked : Outcome
-    asked = judged (answerReply plan step a) (endedBy plan step (withTaken arriving fsn (withAnswer plan step a))) a
+  -- what is done where it asks something
+  abbrev asked : Outcome
+  asked = judged (answerReply plan step a) (endedBy plan step (withAnswer plan step a)) a
 
-    carried-by : (said : Bool) → eqb (step .reply) 0 ≡ said
-        → cond said asked (takenOnly arriving fsn (step .reply) a) ≡ carried plan arriving fsn step a
-    unfolding carried
-    carried-by said e = ap (λ (t : Bool). cond t asked (takenOnly arriving fsn (step .reply) a)) (sym e)
+  carried-by : (said : Bool) → eqb (step .reply) 0 ≡ said → cond said asked (refused (step .reply) a) ≡ carried plan step a
+  unfolding carried
+  carried-by said e = ap (λ (t : Bool). cond t asked (refused (step .reply) a)) (sym e)
 
-    -- a step that asks nothing: the message is taken
-    pub only-taken : 0 < step .reply → (links : List ℕ) → links ≡ taken (a .links) arriving fsn → (answer : Answer) → answer ≡ plain (step .reply)
-        → Leaves (carried plan arriving fsn step a) answer
-        (areas links (a .marks) (a .spans) (a .rings) (a .rows) (a .arrivals) (a .reports))
-    only-taken h links takes answer e =
-        leaves _ answer (areas links (a .marks) (a .spans) (a .rings) (a .rows) (a .arrivals) (a .reports))
-        (ap (λ (r : Answer). outcome r (areas links (a .marks) (a .spans) (a .rings) (a .rows) (a .arrivals) (a .reports))) e
-        ∙ ap (λ (l : List ℕ). outcome (plain (step .reply)) (areas l (a .marks) (a .spans) (a .rings) (a .rows) (a .arrivals) (a .reports))) takes
-        ∙ carried-by false (ne-eqb (step .reply) 0 (omega arith)))
+  -- a step that asks nothing
+  pub asks-nothing : 0 < step .reply → (answer : Answer) → answer ≡ plain (step .reply) → Leaves (carried plan step a) answer a
+  asks-nothing h answer e =
+      leaves _ answer a (ap (λ (r : Answer). outcome r a) e ∙ carried-by false (ne-eqb (step .reply) 0 (omega arith)))
 
-    -- a step that asks something, whose answer was judged
-    module _ (asks : step .reply ≤ 0) (lacking : ℕ) (spans rings rows arrivals : List ℕ) (left : AnswerLeaves lacking spans rings rows arrivals) where
-      abbrev then : List ℕ → Areas
-      then links = areas links (a .marks) spans rings rows arrivals (a .reports)
+  -- a step that asks something, whose answer was judged
+  module _ (asks : step .reply ≤ 0) (lacking : ℕ) (spans rings rows arrivals : List ℕ) (left : AnswerLeaves lacking spans rings rows arrivals) where
+    abbrev then : Areas
+    then = areas (a .links) (a .marks) spans rings rows arrivals (a .reports)
 
-      reply-is : lacking ≡ answerReply plan step a
-      reply-is = ap (λ (r : Answer). r .reply) (left .answers)
+    reply-is : lacking ≡ answerReply plan step a
+    reply-is = ap (λ (r : Answer). r .reply) (left .answers)
 
-      areas-are : then (a .links) ≡ withAnswer plan step a
-      areas-are =
-          ap (λ (o : Outcome). o .after)
-          (whole (outcome (plain (answerReply plan step a)) (withAnswer plan step a)) (plain lacking) (a .links) (a .marks) spans rings rows
-          arrivals (a .reports) left)
+    areas-are : then ≡ withAnswer plan step a
+    areas-are =
+        ap (λ (o : Outcome). o .after)
+        (whole (outcome (plain (answerReply plan step a)) (withAnswer plan step a)) (plain lacking) (a .links) (a .marks) spans rings rows
+        arrivals (a .reports) left)
 
-      judged-by : (said : Bool) → eqb lacking 0 ≡ said
-          → cond said (endedBy plan step (withTaken arriving fsn (withAnswer plan step a))) (refused lacking a) ≡ carried plan arriving fsn step a
-      judged-by said e =
-          let all = endedBy plan step (withTaken arriving fsn (withAnswer plan step a)) in
-          ap (λ (t : Bool). cond t all (refused lacking a)) (sym e)
-          ∙ ap (λ (n : ℕ). judged n all a) reply-is
-          ∙ carried-by true (eq-eqb (step .reply) 0 (omega arith))
+    judged-by : (said : Bool) → eqb lacking 0 ≡ said
+        → cond said (endedBy plan step (withAnswer plan step a)) (refused lacking a) ≡ carried plan step a
+    judged-by said e =
+        let all = endedBy plan step (withAnswer plan step a) in
+        ap (λ (t : Bool). cond t all (refused lacking a)) (sym e)
+        ∙ ap (λ (n : ℕ). judged n all a) reply-is
+        ∙ carried-by true (eq-eqb (step .reply) 0 (omega arith))
 
-      -- the answer finds no place or number: nothing changes
-      pub answer-lacking : 0 < lacking → (answer : Answer) → answer ≡ plain lacking
-          → Leaves (carried plan arriving fsn step a) answer (then (a .links))
-      answer-lacking h answer e =
-          let lacks = ne-eqb lacking 0 (omega arith) in
-          let kept : then (a .links) ≡ a = areas-are ∙ answer-kept (ap (λ (n : ℕ). eqb n 0) (sym reply-is) ∙ lacks) in
-          leaves _ answer (then (a .links))
-          (ap (λ (r : Answer). outcome r (then (a .links))) e ∙ ap (outcome (plain lacking)) kept ∙ judged-by false lacks)
+    -- the answer finds no place or number: nothing changes
+    pub answer-lacking : 0 < lacking → (answer : Answer) → answer ≡ plain lacking → Leaves (carried plan step a) answer then
+    answer-lacking h answer e =
+        let lacks = ne-eqb lacking 0 (omega arith) in
+        let kept : then ≡ a = areas-are ∙ answer-kept (ap (λ (n : ℕ). eqb n 0) (sym reply-is) ∙ lacks) in
+        leaves _ answer then (ap (λ (r : Answer). outcome r then) e ∙ ap (outcome (plain lacking)) kept ∙ judged-by false lacks)
 
-      -- the answer is queued, and the message taken
-      module _ (queued : lacking ≤ 0) (links : List ℕ) (takes : links ≡ taken (a .links) arriving fsn) where
-        taken-are : then links ≡ withTaken arriving fsn (withAnswer plan step a)
-        taken-are = ap (λ (l : List ℕ). then l) takes ∙ ap (withTaken arriving fsn) areas-are
+    -- the answer is queued
+    module _ (queued : lacking ≤ 0) where
+      ended-by : (said : Bool) → step .ends ≡ said
+          → cond said (outOfService plan then (step .link) (step .parts)) (outcome (done 0) then) ≡ carried plan step a
+      unfolding endedBy
+      ended-by said e =
+          ap (λ (t : Bool). cond t (outOfService plan then (step .link) (step .parts)) (outcome (done 0) then)) (sym e)
+          ∙ ap (endedBy plan step) areas-are
+          ∙ judged-by true (eq-eqb lacking 0 (omega arith))
 
-        ended-by : (said : Bool) → step .ends ≡ said
-            → cond said (outOfService plan (then links) (step .link) (step .parts)) (outcome (done 0) (then links))
-            ≡ carried plan arriving fsn step a
-        unfolding endedBy
-        ended-by said e =
-            ap (λ (t : Bool). cond t (outOfService plan (then links) (step .link) (step .parts)) (outcome (done 0) (then links))) (sym e)
-            ∙ ap (endedBy plan step) taken-are
-            ∙ judged-by true (eq-eqb lacking 0 (omega arith))
+      -- no link goes out
+      pub no-end : step .ends ≡ false → (answer : Answer) → answer ≡ done 0 → Leaves (carried plan step a) answer then
+      no-end stays answer e = leaves _ answer then (ap (λ (r : Answer). outcome r then) e ∙ ended-by false stays)
 
-        -- no link goes out
-        pub no-end : step .ends ≡ false → (answer : Answer) → answer ≡ done 0 → Leaves (carried plan arriving fsn step a) answer (then links)
-        no-end stays answer e = leaves _ answer (then links) (ap (λ (r : Answer). outcome r (then links)) e ∙ ended-by false stays)
-
-        -- one does
-        pub link-ended : step .ends ≡ true → (count : ℕ) (reports links′ spans′ rings′ : List ℕ)
-            → EndLeaves plan (then links) (step .link) (step .parts) count reports links′ spans′ rings′
-            → (answer : Answer) → answer ≡ done count
-            → Leaves (carried plan arriving fsn step a) answer (areas links′ (a .marks) spans′ rings′ rows arrivals reports)
-        link-ended goes count reports links′ spans′ rings′ left answer e =
-            leaves _ answer (areas links′ (a .marks) spans′ rings′ rows arrivals reports)
-            (ap (λ (r : Answer). outcome r (areas links′ (a .marks) spans′ rings′ rows arrivals reports)) e
-            ∙ parts-whole plan (then links) (step .link) (step .parts) count reports links′ spans′ rings′ left
-            ∙ ended-by true goes)
+      -- one does
+      pub link-ended : step .ends ≡ true → (count : ℕ) (reports links′ spans′ rings′ : List ℕ)
+          → EndLeaves plan then (step .link) (step .parts) count reports links′ spans′ rings′
+          → (answer : Answer) → answer ≡ done count
+          → Leaves (carried plan step a) answer (areas links′ (a .marks) spans′ rings′ rows arrivals reports)
+      link-ended goes count reports links′ spans′ rings′ left answer e =
+          leaves _ answer (areas links′ (a .marks) spans′ rings′ rows arrivals reports)
+          (ap (λ (r : Answer). outcome r (areas links′ (a .marks) spans′ rings′ rows arrivals reports)) e
+          ∙ parts-whole plan then (step .link) (step .parts) count reports links′ spans′ rings′ left
+          ∙ ended-by true goes)

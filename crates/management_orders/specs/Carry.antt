@@ -1,10 +1,8 @@
--- How a step is carried out: the answer is queued, the message taken, and then the link goes out. "COO is answered with COA, queued
+-- How a step is carried out: the answer is queued, and then the link goes out. "COO is answered with COA, queued
 -- before anything moves." (R123, R124)
 use Prim.Native.Nat.{ℕ}
 use mathlib.Core.Bool.{cond}
-use lib.Dec.{eqb}
 use Rattle.plan.specs.declared.data.Plan.{Plan}
-use Rattle.numbers.specs.Taken.{withTaken, takenOnly}
 use Rattle.replies.specs.Reply.{plain, done}
 use Rattle.replies.specs.Areas.{Areas, Outcome, outcome, judged}
 use Rattle.management_making.specs.Make.{withMade, makesReply}
@@ -27,9 +25,7 @@ answered plan step a = outcome (plain (answerReply plan step a)) (withAnswer pla
 unfoldable pub endedBy : Plan → Step → Areas → Outcome
 endedBy plan step a = cond (step .ends) (outOfService plan a (step .link) (step .parts)) (outcome (done 0) a)
 
--- a step carried out, of a message with a number that came over a link (R131)
-unfoldable pub carried : Plan → ℕ → ℕ → Step → Areas → Outcome
-carried plan arriving fsn step a =
-    cond (eqb (step .reply) 0)
-    (judged (answerReply plan step a) (endedBy plan step (withTaken arriving fsn (withAnswer plan step a))) a)
-    (takenOnly arriving fsn (step .reply) a)
+-- a step carried out: none with another reply than 0, nor where its answer finds no place or number (R131)
+unfoldable pub carried : Plan → Step → Areas → Outcome
+carried plan step a =
+    judged (step .reply) (judged (answerReply plan step a) (endedBy plan step (withAnswer plan step a)) a) a

@@ -1,8 +1,7 @@
-// How a step is carried out: the answer is queued, the message taken, and then the link goes out.
+// How a step is carried out: the answer is queued, and then the link goes out.
 use changeover_ending::end_service;
 use management_making::make;
 use management_steps::Step;
-use numbers::take_message;
 use replies::Answer;
 use replies::done;
 use replies::plain;
@@ -35,7 +34,7 @@ fn give_answer(
     given.reply
 }
 
-// The step of a message that came over a link with a number.
+// The step of a message that came over a link.
 pub fn carry_out(
     plan: &[u16; 1024],
     links: &mut [u32; 256],
@@ -44,16 +43,13 @@ pub fn carry_out(
     rings: &mut [u8; 8960],
     rows: &mut [u64; 2048],
     arrivals: &mut [u64; 1],
-    arriving: u8,
-    fsn: u8,
     step: Step,
     reports: &mut [u64],
 ) -> Answer
-    ensures { λ r. ⌜ Leaves (Carry.carried (planOf plan) arriving fsn step (before links marks spans rings rows arrivals reports)) r
+    ensures { λ r. ⌜ Leaves (Carry.carried (planOf plan) step (before links marks spans rings rows arrivals reports)) r
         (after links marks spans rings rows arrivals reports) ⌝ }
 {
     if 0 < step.reply {
-        take_message(links, arriving, fsn);
         return plain(step.reply);
     }
     let lacking = give_answer(
@@ -70,7 +66,6 @@ pub fn carry_out(
     if 0 < lacking {
         return plain(lacking);
     }
-    take_message(links, arriving, fsn);
     if !step.ends {
         return done(0);
     }

@@ -1,12 +1,13 @@
 -- A message from a link that is taken: "\"Taken\" moves that link's last received FSN on and changes nothing else" (R62).
 use Prim.Native.Nat.{ℕ}
-use Rattle.replies.specs.Reply.{plain}
+use mathlib.Core.Bool.{cond}
 use Rattle.replies.specs.Areas.{Areas, Outcome, outcome, withLinks}
-use Rattle.numbers.specs.Numbers.{taken}
+use Rattle.numbers.specs.Numbers.{isTaken, taken}
 
 abbrev pub withTaken : ℕ → ℕ → Areas → Areas
 withTaken arriving fsn a = withLinks a (taken (a .links) arriving fsn)
 
--- a message that is taken and has no effect (R52)
-abbrev pub takenOnly : ℕ → ℕ → ℕ → Areas → Outcome
-takenOnly arriving fsn reply a = outcome (plain reply) (withTaken arriving fsn a)
+-- what has become of a message, and then the message taken, by its reply
+abbrev pub takenBy : ℕ → ℕ → Outcome → Outcome
+takenBy arriving fsn o =
+    outcome (o .answer) (cond (isTaken (o .answer .reply)) (withTaken arriving fsn (o .after)) (o .after))

@@ -21,6 +21,19 @@ pub fn left_sent(known: LinkRecord, b: u8) -> u8
     distance(distance(known.acknowledged, b), known.sent)
 }
 
+// Whether a message that was looked at is taken, by its reply.
+pub fn is_taken(reply: u8) -> bool
+    ensures { λ r. ⌜ r ≡ Numbers.isTaken reply ⌝ }
+{
+    if reply == 7 {
+        return false;
+    }
+    if reply == 8 {
+        return false;
+    }
+    reply != 10
+}
+
 // A message from a link is taken: the link's last received number moves on.
 pub fn take_message(links: &mut [u32; 256], link: u8, fsn: u8)
     ensures { λ r. ⌜ now (links .exit) ≡ Numbers.taken (now (links .entry)) link fsn ⌝ }

@@ -1,5 +1,5 @@
--- What a message for a point that can't be reached leaves: it is taken with no TFP due, refused where the TFP finds no place or
--- number, and else taken with the TFP made and T8 started. Assumes nothing.
+-- What a message for a point that can't be reached leaves: all as it was with no TFP due, or where the TFP finds no place or number, and
+-- else the TFP made and T8 started. Assumes nothing.
 use mathlib.Core.Path.{_≡_, sym, ap, _∙_}
 use mathlib.Core.Bool.{Bool, true, false, cond}
 use mathlib.Core.List.{List}
@@ -7,11 +7,9 @@ use Prim.Native.Nat.{ℕ, _≤_, _<_}
 use Rattle.plan.specs.declared.data.Plan.{Plan}
 use Rattle.replies.specs.declared.Answer.{Answer}
 use Rattle.replies.specs.Reply.{plain}
-use Rattle.replies.specs.Areas.{Areas, Outcome, outcome, judged, withLinks, withMarks, Leaves}
+use Rattle.replies.specs.Areas.{Areas, Outcome, outcome, judged, withMarks, Leaves}
 use Rattle.replies.proofs.Rows.{refused}
 use Rattle.replies.proofs.Leaving.{leaves}
-use Rattle.numbers.specs.Numbers.{taken}
-use Rattle.numbers.specs.Taken.{withTaken, takenOnly}
 use Rattle.management_making.specs.declared.Draft.{Draft}
 use Rattle.management_making.specs.declared.Made.{Made}
 use Rattle.management_making.specs.Make.{Held, held, heldIn, withHeld, isMade, made, withMade, makesReply}
@@ -20,28 +18,23 @@ use Rattle.passing_passage.specs.Passage.{prohibitedTo, tells, withT8}
 use Rattle.passing.specs.Pass.{marksTold, notReached}
 use Rattle.replies.proofs.Judging.{is-refused, is-done}
 
-module _ (plan : Plan) (a : Areas) (arriving fsn x : ℕ) where
+module _ (plan : Plan) (a : Areas) (arriving x : ℕ) where
   -- the outcome where a TFP is due
   abbrev told : Outcome
   told =
       judged (makesReply plan (prohibitedTo plan arriving x) a)
-      (outcome (plain 9)
-      (withTaken arriving fsn (withMarks (withMade plan (prohibitedTo plan arriving x) a) (marksTold plan a arriving x))))
+      (outcome (plain 9) (withMarks (withMade plan (prohibitedTo plan arriving x) a) (marksTold plan a arriving x)))
       a
 
   by-due : (said : Bool) → tells plan (a .marks) x ≡ said
-      → cond said told (takenOnly arriving fsn 9 a) ≡ notReached plan arriving fsn x a
+      → cond said told (outcome (plain 9) a) ≡ notReached plan arriving x a
   unfolding notReached
-  by-due said e = sym (ap (λ (t : Bool). cond t told (takenOnly arriving fsn 9 a)) e)
+  by-due said e = sym (ap (λ (t : Bool). cond t told (outcome (plain 9) a)) e)
 
   -- no TFP is due
-  pub only-taken : tells plan (a .marks) x ≡ false → (links : List ℕ) → links ≡ taken (a .links) arriving fsn
-      → (answer : Answer) → answer ≡ plain 9 → Leaves (notReached plan arriving fsn x a) answer (withLinks a links)
-  only-taken e links is answer nine =
-      leaves (notReached plan arriving fsn x a) answer (withLinks a links)
-      (ap (λ (r : Answer). outcome r (withLinks a links)) nine
-      ∙ ap (λ (l : List ℕ). outcome (plain 9) (withLinks a l)) is
-      ∙ by-due false e)
+  pub none-due : tells plan (a .marks) x ≡ false → (answer : Answer) → answer ≡ plain 9 → Leaves (notReached plan arriving x a) answer a
+  none-due e answer nine =
+      leaves (notReached plan arriving x a) answer a (ap (λ (r : Answer). outcome r a) nine ∙ by-due false e)
 
 -- a TFP is due, and was asked for: what was answered, and what is held then
 pub record Asked (plan : Plan) (a : Areas) (arriving x : ℕ) (sent : Made) (now : Held) : Type 0 where
@@ -64,20 +57,20 @@ asked plan a arriving x due draft drafted sent spans rings rows arrivals left =
       holds = left .1 ∙ ap (λ (d : Draft). made plan (a .links) (a .marks) d (heldIn a)) drafted;
     }
 
-module _ (plan : Plan) (a : Areas) (arriving fsn x : ℕ) (sent : Made) (now : Held) (so : Asked plan a arriving x sent now) where
+module _ (plan : Plan) (a : Areas) (arriving x : ℕ) (sent : Made) (now : Held) (so : Asked plan a arriving x sent now) where
   -- it finds no place or number
   pub not-told : 0 < sent .reply → (answer : Answer) → answer ≡ plain (sent .reply)
-      → Leaves (notReached plan arriving fsn x a) answer (withHeld a now)
+      → Leaves (notReached plan arriving x a) answer (withHeld a now)
   not-told over answer says =
       let kept : now ≡ heldIn a =
       so .holds
       ∙ refused-kept plan (a .links) (a .marks) (prohibitedTo plan arriving x) (heldIn a) (refused (sent .reply) _ (so .replies) over)
       in
-      leaves (notReached plan arriving fsn x a) answer (withHeld a now)
+      leaves (notReached plan arriving x a) answer (withHeld a now)
       (ap (λ (r : Answer). outcome r (withHeld a now)) says
       ∙ ap (λ (h : Held). outcome (plain (sent .reply)) (withHeld a h)) kept
       ∙ is-refused (sent .reply) _ (so .replies) _ a over
-      ∙ by-due plan a arriving fsn x true (so .is-due))
+      ∙ by-due plan a arriving x true (so .is-due))
 
   -- the flags, with T8 started if it was made
   pub marks-are : (said : Bool) → sent .made ≡ said → cond said (withT8 plan (a .marks) x) (a .marks) ≡ marksTold plan a arriving x
@@ -85,15 +78,13 @@ module _ (plan : Plan) (a : Areas) (arriving fsn x : ℕ) (sent : Made) (now : H
   marks-are said e = ap (λ (t : Bool). cond t (withT8 plan (a .marks) x) (a .marks)) (sym e ∙ so .makes)
 
   -- it finds what it needs, or has no path
-  pub is-told : sent .reply ≤ 0 → (marks : List ℕ) → marks ≡ marksTold plan a arriving x
-      → (links : List ℕ) → links ≡ taken (a .links) arriving fsn → (answer : Answer) → answer ≡ plain 9
-      → Leaves (notReached plan arriving fsn x a) answer (withLinks (withMarks (withHeld a now) marks) links)
-  is-told nothing marks flagged links is answer nine =
-      let after : Held → List ℕ → List ℕ → Areas = λ h m l. withLinks (withMarks (withHeld a h) m) l in
-      leaves (notReached plan arriving fsn x a) answer (after now marks links)
-      (ap (λ (r : Answer). outcome r (after now marks links)) nine
-      ∙ ap (λ (l : List ℕ). outcome (plain 9) (after now marks l)) is
-      ∙ ap (λ (m : List ℕ). outcome (plain 9) (after now m (taken (a .links) arriving fsn))) flagged
-      ∙ ap (λ (h : Held). outcome (plain 9) (after h (marksTold plan a arriving x) (taken (a .links) arriving fsn))) (so .holds)
+  pub is-told : sent .reply ≤ 0 → (marks : List ℕ) → marks ≡ marksTold plan a arriving x → (answer : Answer) → answer ≡ plain 9
+      → Leaves (notReached plan arriving x a) answer (withMarks (withHeld a now) marks)
+  is-told nothing marks flagged answer nine =
+      let after : Held → List ℕ → Areas = λ h m. withMarks (withHeld a h) m in
+      leaves (notReached plan arriving x a) answer (after now marks)
+      (ap (λ (r : Answer). outcome r (after now marks)) nine
+      ∙ ap (λ (m : List ℕ). outcome (plain 9) (after now m)) flagged
+      ∙ ap (λ (h : Held). outcome (plain 9) (after h (marksTold plan a arriving x))) (so .holds)
       ∙ is-done (sent .reply) _ (so .replies) _ a nothing
-      ∙ by-due plan a arriving fsn x true (so .is-due))
+      ∙ by-due plan a arriving x true (so .is-due))

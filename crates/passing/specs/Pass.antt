@@ -8,7 +8,6 @@ use Rattle.wire.specs.declared.header.Label.{Label}
 use Rattle.replies.specs.Reply.{plain, done}
 use Rattle.replies.specs.Areas.{Areas, Outcome, outcome, judged, withMarks}
 use Rattle.management_making.specs.Make.{isMade, withMade, makesReply}
-use Rattle.numbers.specs.Taken.{withTaken}
 use Rattle.passing_passage.specs.Passage.{unreachable, placeReply, queued, octetsQueued, prohibitedTo, tells, withT8}
 
 -- "with a TFP made, T8 starts" (R72)
@@ -19,20 +18,20 @@ marksTold plan a arriving x =
     (a .marks)
 
 -- reply 9 to a message from a link, or "8 or 10 is given in place of 9 where its TFP finds no place or number" (R7, R55, R61, R70)
-unfoldable pub notReached : Plan → ℕ → ℕ → ℕ → Areas → Outcome
-notReached plan arriving fsn x a =
+unfoldable pub notReached : Plan → ℕ → ℕ → Areas → Outcome
+notReached plan arriving x a =
     cond (tells plan (a .marks) x)
     (judged (makesReply plan (prohibitedTo plan arriving x) a)
-    (outcome (plain 9) (withTaken arriving fsn (withMarks (withMade plan (prohibitedTo plan arriving x) a) (marksTold plan a arriving x))))
+    (outcome (plain 9) (withMarks (withMade plan (prohibitedTo plan arriving x) a) (marksTold plan a arriving x)))
     a)
-    (outcome (plain 9) (withTaken arriving fsn a))
+    (outcome (plain 9) a)
 
--- a message for another point that came over a link with a number
-unfoldable pub passed : Plan → ℕ → ℕ → Label → ℕ → Areas → Outcome
-passed plan arriving fsn label size a =
+-- a message for another point that came over a link
+unfoldable pub passed : Plan → ℕ → Label → ℕ → Areas → Outcome
+passed plan arriving label size a =
     cond (unreachable plan a label)
-    (notReached plan arriving fsn (label .dpc) a)
-    (judged (placeReply a) (outcome (done 0) (withTaken arriving fsn (queued plan a label size))) a)
+    (notReached plan arriving (label .dpc) a)
+    (judged (placeReply a) (outcome (done 0) (queued plan a label size)) a)
 
 -- the octets after it
 unfoldable pub octetsPassed : Plan → Label → Areas → List ℕ → List ℕ → List ℕ

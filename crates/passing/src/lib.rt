@@ -1,7 +1,6 @@
 // A message for another point that came over a link: queued, or told to be out of reach.
 use constants::NO_LINK;
 use management_making::make;
-use numbers::take_message;
 use passing_passage::prohibited_to;
 use passing_passage::ring_of;
 use passing_passage::start_t8;
@@ -22,23 +21,21 @@ ghost use Rattle.passing.specs.Pass as Pass;
 // A message for a point that can't be reached.
 fn not_reached(
     plan: &[u16; 1024],
-    links: &mut [u32; 256],
+    links: &[u32; 256],
     marks: &mut [u32; 512],
     spans: &mut [u16; 70],
     rings: &mut [u8; 8960],
     rows: &mut [u64; 2048],
     arrivals: &mut [u64; 1],
     arriving: u8,
-    fsn: u8,
     x: u16,
     reports: &[u64],
 ) -> Answer
-    ensures { λ r. ⌜ Leaves (Pass.notReached (planOf plan) arriving fsn x (before links marks spans rings rows arrivals reports)) r
+    ensures { λ r. ⌜ Leaves (Pass.notReached (planOf plan) arriving x (before links marks spans rings rows arrivals reports)) r
         (after links marks spans rings rows arrivals reports) ⌝ }
 {
     let due = tells(plan, marks, x);
     if !due {
-        take_message(links, arriving, fsn);
         return plain(9);
     }
     let told = prohibited_to(plan, arriving, x);
@@ -49,14 +46,13 @@ fn not_reached(
     if sent.made {
         start_t8(plan, marks, x);
     }
-    take_message(links, arriving, fsn);
     plain(9)
 }
 
-// A message for another point that came over a link with a number.
+// A message for another point that came over a link.
 pub fn pass_on(
     plan: &[u16; 1024],
-    links: &mut [u32; 256],
+    links: &[u32; 256],
     marks: &mut [u32; 512],
     spans: &mut [u16; 70],
     rings: &mut [u8; 8960],
@@ -64,12 +60,11 @@ pub fn pass_on(
     octets: &mut [u8; 52416],
     arrivals: &mut [u64; 1],
     arriving: u8,
-    fsn: u8,
     label: Label,
     message: &[u8],
     reports: &[u64],
 ) -> Answer
-    ensures { λ r. ⌜ Leaves (Pass.passed (planOf plan) arriving fsn label (length (old message)) (before links marks spans rings rows arrivals reports)) r
+    ensures { λ r. ⌜ Leaves (Pass.passed (planOf plan) arriving label (length (old message)) (before links marks spans rings rows arrivals reports)) r
         (after links marks spans rings rows arrivals reports) ⌝ }
     ensures { λ r. ⌜ new octets ≡
         Pass.octetsPassed (planOf plan) label (before links marks spans rings rows arrivals reports) (old octets) (old message) ⌝ }
@@ -85,7 +80,6 @@ pub fn pass_on(
             rows,
             arrivals,
             arriving,
-            fsn,
             label.dpc,
             reports,
         );
@@ -105,6 +99,5 @@ pub fn pass_on(
     if 0 < reply {
         return plain(reply);
     }
-    take_message(links, arriving, fsn);
     done(0)
 }

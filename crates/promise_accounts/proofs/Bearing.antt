@@ -22,7 +22,7 @@ use Rattle.promise_runs.proofs.Outcomes.{by-test, unmet}
 use Rattle.promise_accounts.proofs.EvenEnding.{Fits, cut-fits}
 use Rattle.wire_messages.specs.declared.management.Message.{Message}
 use Rattle.wire_messages.specs.declared.management.Message.the-variants.{COO, COA, CBD, CBA, ECO, ECA, TFP, TFA, RST}
-use Rattle.management.specs.Managed.{asked}
+use Rattle.managing.specs.Managed.{asked, stepAsked}
 
 -- a step ends the changeover of a link that there is, with a cut that its queue can bear
 abbrev pub Bears : (ℕ → ℕ) → Step → Type 0
@@ -104,7 +104,7 @@ module _ (count : ℕ → ℕ) where
         by-test (Bears count) (allows plan links marks point x) (answer (draft 0x54 point 0 x 32)) nothing (λ e. unmet) (λ e. unmet)
 
     -- whatever it is
-    pub asked-bears : (message : Message) → Bears count (asked plan links marks arriving fsn point slc message)
+    pub asked-bears : (message : Message) → Bears count (stepAsked plan links marks arriving fsn point slc message)
     unfolding asked
     asked-bears (COO f) = coo-bears f
     asked-bears (COA f) = coa-bears f

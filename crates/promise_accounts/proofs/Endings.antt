@@ -3,14 +3,16 @@
 use mathlib.Core.Path.{_≡_, refl, sym, ap, _∙_}
 use mathlib.Core.Bool.{Bool, true, false, cond, not, _&&_, _||_, true≢false, and-eq-true-iff}
 use mathlib.Core.List.{List, []}
-use Prim.Native.Nat.{ℕ, _+_, _≤_, _<_}
+use Prim.Native.Nat.{ℕ, _+_, _≤_, _<_, _%_}
 use native.Mathlib.Omega.{arith}
 use lib.Dec.{eqb, ltb, leb}
 use lib.ListN.{length}
-use borrow.Author.Tests.{ltb-true, ltb-false, eqb-true}
+use borrow.Author.Tests.{ltb-true, ltb-false, leb-true, leb-false, eqb-true}
+use borrow.Table.Steps.{cases}
 use Rattle.plan.specs.declared.data.Plan.{Plan}
 use Rattle.plan.specs.Find.{given}
-use Rattle.plan.proofs.Split.{both-false}
+use Rattle.plan.proofs.Split.{both-false, alike}
+use Rattle.area_links.specs.declared.LinkRecord.{LinkRecord}
 use Rattle.area_links.specs.LinkRecords.{recordAt}
 use Rattle.queue_rings.specs.Ring.{countOf}
 use Rattle.wire_messages.specs.declared.management.Message.{Message}
@@ -29,11 +31,12 @@ use Rattle.changeover_failure.specs.Overdue as Overdue
 use Rattle.changeover_overdue.specs.Expire as Timer
 use Rattle.management_steps.specs.declared.Step.{Step}
 use Rattle.management_orders.specs.Carry.{answerReply, withAnswer, endedBy, carried}
-use Rattle.management.specs.Managed.{asked, managed}
+use Rattle.managing.specs.Managed.{asked, stepAsked, managed}
 use Rattle.discrimination.specs.declared.Came.{Came}
 use Rattle.discrimination.specs.declared.Came.the-variants.{Malformed, Foreign, Delivered, Managed, Passed}
 use Rattle.discrimination.specs.Discrimination.{fromLink}
-use Rattle.numbers.specs.Taken.{withTaken, takenOnly}
+use Rattle.numbers.specs.Numbers.{isTaken, taken}
+use Rattle.numbers.specs.Taken.{withTaken, takenBy}
 use Rattle.receiving.specs.Receive.{receivedBy, received}
 use Rattle.receiving.specs.Receive as Receive
 use Rattle.node.specs.declared.call.Event.{Event}
@@ -43,7 +46,8 @@ use Rattle.node.specs.Memory.{Memory}
 use Rattle.node.specs.Call.{receives, callOf}
 use Rattle.promise_leaving.proofs.Ended.{now-out, ended-exactly}
 use Rattle.promise_runs.proofs.Outcomes.{RegularIn, unmet, by-test, if-both-done, rows-passed, link-within}
-use Rattle.promise_runs.proofs.KeepsOrders.{with-taken-regular}
+use Rattle.promise_runs.proofs.Records.{received-rewritten}
+use Rattle.promise_runs.proofs.KeepsReceiving.{came-regular}
 use Rattle.promise_accounts.proofs.Answers.{answer-regular, answer-reports}
 use Rattle.promise_accounts.proofs.Bearing.{Bears, asked-bears}
 use Rattle.promise_accounts.proofs.EvenEnding.{sent-queued}
@@ -53,6 +57,22 @@ use Rattle.promise_accounts.specs.Ending.{Ending, noEnding, endingByTime
 -- at most 64 destinations are given
 given-few : (plan : Plan) → given plan ≤ 64
 given-few plan = omega arith
+
+-- a link that is out stays out with a message taken
+still-out : (links : List ℕ) → length links ≡ 256 → (arriving fsn link : ℕ) → recordAt links link .state ≡ 0
+    → recordAt (taken links arriving fsn) link .state ≡ 0
+unfolding taken
+still-out links long arriving fsn link out =
+    let rewritten = received-rewritten links arriving fsn in
+    cases (leb 32 arriving)
+    (λ past. ap (λ (l : List ℕ). recordAt l link .state) (rewritten .past (leb-true 32 arriving past)) ∙ out)
+    (λ within.
+    alike link arriving
+    (λ same.
+    ap (λ (l : ℕ). recordAt (taken links arriving fsn) l .state) same
+    ∙ ap (λ (k : LinkRecord). k .state) (rewritten .there long (leb-false 32 arriving within))
+    ∙ ap (λ (n : ℕ). n % 4) (ap (λ (l : ℕ). recordAt links l .state) (sym same) ∙ out))
+    (λ apart. ap (λ (k : LinkRecord). k .state) (rewritten .others link apart) ∙ out))
 
 module _ (plan : Plan) where
   -- an ending is exact by an outcome
@@ -115,19 +135,32 @@ module _ (plan : Plan) where
         cutNone)
         (λ e. absurd (true≢false (sym (is .1) ∙ e))))
 
+  -- and it is with the message taken after it
+  taken-exactly : (ending : Ending) (o : Outcome) → length (o .after .links) ≡ 256 → ExactBy ending o → (arriving fsn : ℕ)
+      → ExactBy ending (takenBy arriving fsn o)
+  taken-exactly ending o long exact arriving fsn =
+      by-test (λ (b : Areas). Exactly plan ending b (o .answer .reports)) (isTaken (o .answer .reply)) (withTaken arriving fsn (o .after)) (o .after)
+      (λ e.
+      record {
+        ended = exact .ended;
+        goes-out = still-out (o .after .links) long arriving fsn (ending .link) (exact .goes-out);
+        rows-same = exact .rows-same;
+        arrivals-same = exact .arrivals-same;
+      })
+      (λ e. exact)
+
 module _ (plan : Plan) (a : Areas) (octets : List ℕ) (regular : RegularIn a octets) (arriving fsn : ℕ) where
   -- a COO, COA, ECO or ECA that ends a changeover, by the step that it asks
   step-exactly : (step : Step) → short (a .reports) ≡ false → Bears (countOf (a .spans)) step
-      → endingByStep plan a arriving fsn step .ends ≡ true
-      → ExactBy plan (endingByStep plan a arriving fsn step) (carried plan arriving fsn step a)
+      → endingByStep plan a step .ends ≡ true
+      → ExactBy plan (endingByStep plan a step) (carried plan step a)
   unfolding endingByStep carried endedBy
   step-exactly step wide bears ends =
       let answered = answerReply plan step a in
       let first = and-eq-true-iff (eqb (step .reply) 0) (eqb answered 0 && step .ends) .0 ends in
       let next = and-eq-true-iff (eqb answered 0) (step .ends) .0 (first .1) in
-      let b : Areas = withTaken arriving fsn (withAnswer plan step a) in
       let exact =
-      out-exactly plan b octets (with-taken-regular octets (withAnswer plan step a) (answer-regular a octets regular plan step) arriving fsn)
+      out-exactly plan (withAnswer plan step a) octets (answer-regular a octets regular plan step)
       true
       (step .link)
       (bears (next .1) .0)
@@ -138,10 +171,10 @@ module _ (plan : Plan) (a : Areas) (octets : List ℕ) (regular : RegularIn a oc
 
   module _ (wide : short (a .reports) ≡ false) (point slc : ℕ) where
     abbrev asks : Message → Step
-    asks message = asked plan (a .links) (a .marks) arriving fsn point slc message
+    asks message = stepAsked plan (a .links) (a .marks) arriving fsn point slc message
 
-    carries-out : (message : Message) → endingByStep plan a arriving fsn (asks message) .ends ≡ true
-        → ExactBy plan (endingByStep plan a arriving fsn (asks message)) (carried plan arriving fsn (asks message) a)
+    carries-out : (message : Message) → endingByStep plan a (asks message) .ends ≡ true
+        → ExactBy plan (endingByStep plan a (asks message)) (carried plan (asks message) a)
     carries-out message =
         step-exactly (asks message) wide
         (asked-bears (countOf (a .spans)) plan (a .links) (a .marks)
@@ -153,8 +186,8 @@ module _ (plan : Plan) (a : Areas) (octets : List ℕ) (regular : RegularIn a oc
         message)
 
     -- of the nine management messages those that ask for it
-    managed-exactly : (message : Message) → endingByStep plan a arriving fsn (asks message) .ends ≡ true
-        → ExactBy plan (endingByStep plan a arriving fsn (asks message)) (managed plan arriving fsn point slc message a)
+    managed-exactly : (message : Message) → endingByStep plan a (asks message) .ends ≡ true
+        → ExactBy plan (endingByStep plan a (asks message)) (managed plan arriving fsn point slc message a)
     unfolding managed asked endingByStep
     managed-exactly (COO f) = carries-out (COO f)
     managed-exactly (COA f) = carries-out (COA f)
@@ -184,13 +217,19 @@ module _ (plan : Plan) (a : Areas) (octets : List ℕ) (regular : RegularIn a oc
       ending .ends ≡ true → ExactBy plan ending (received plan arriving fsn message a)
   unfolding received
   received-exactly message =
+      let became : Outcome = receivedBy plan arriving fsn (length message) (fromLink plan message) a in
       if-both-done (λ (e : Ending) (o : Outcome). e .ends ≡ true → ExactBy plan e o)
       (Receive.replyOf plan (a .links) arriving fsn (a .reports))
       (endingByMessage plan a arriving fsn (fromLink plan message))
       (noEnding a)
-      (receivedBy plan arriving fsn (length message) (fromLink plan message) a)
+      (takenBy arriving fsn became)
       (refused (Receive.replyOf plan (a .links) arriving fsn (a .reports)) a)
-      (λ done. came-exactly (room-there plan a arriving fsn done) (length message) (fromLink plan message))
+      (λ done ends.
+      taken-exactly plan (endingByMessage plan a arriving fsn (fromLink plan message)) became
+      (came-regular a octets regular plan arriving fsn message (fromLink plan message) .links-long)
+      (came-exactly (room-there plan a arriving fsn done) (length message) (fromLink plan message) ends)
+      arriving
+      fsn)
       (λ ends. absurd (true≢false (sym ends)))
 
 -- every event that takes a link out of service does so exactly

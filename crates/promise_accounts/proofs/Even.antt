@@ -9,11 +9,11 @@ use lib.ListN.{length}
 use Rattle.queue_store.specs.Sound.{tally, Kinds}
 use Rattle.replies.specs.Reply.{plain, done, ifDone}
 use Rattle.replies.specs.Areas.{Areas, Outcome, outcome, judged, refused, withLinks, withMarks}
-use Rattle.numbers.specs.Numbers.{taken}
-use Rattle.numbers.specs.Taken.{withTaken, takenOnly}
+use Rattle.numbers.specs.Numbers.{isTaken, taken}
+use Rattle.numbers.specs.Taken.{withTaken, takenBy}
 use Rattle.queue_heads.specs.Head.{both}
 use Rattle.queue_joining.specs.Queue.{nextOf}
-use Rattle.promise_runs.proofs.Outcomes.{if-done, if-both-done}
+use Rattle.promise_runs.proofs.Outcomes.{by-test, if-done, if-both-done}
 use Rattle.promise_ledger.specs.Held.{heldOf, givenOf}
 use Rattle.promise_ledger.specs.Reported.{reportsIn, dropsOf}
 
@@ -69,10 +69,12 @@ module _ (test : ℕ → Bool) where
   unfolding tally
   undropped a b reports even none = record { one = even .one; even = omega (arith, even .even, none); apart = even .apart }
 
-  -- a message that is taken and has no effect
-  pub taken-even : (a : Areas) → length (a .arrivals) ≡ 1 → (arriving fsn reply : ℕ) → EvenBy a (takenOnly arriving fsn reply a) []
-  taken-even a long arriving fsn reply =
-      untold a reply (withTaken arriving fsn a) (even-links a a 0 (even-none a long) (taken (a .links) arriving fsn))
+  -- a message that is taken, or not
+  pub taken-even : (a : Areas) (arriving fsn : ℕ) (o : Outcome) (gone : List ℕ) → EvenBy a o gone → EvenBy a (takenBy arriving fsn o) gone
+  taken-even a arriving fsn o gone even =
+      by-test (λ (b : Areas). EvenBy a (outcome (o .answer) b) gone) (isTaken (o .answer .reply)) (withTaken arriving fsn (o .after)) (o .after)
+      (λ e. even-links a (o .after) (tally test gone + toldIn o) even (taken (o .after .links) arriving fsn))
+      (λ e. even)
 
   -- a refused event
   pub refused-even : (a : Areas) → length (a .arrivals) ≡ 1 → (reply : ℕ) → EvenBy a (refused reply a) []

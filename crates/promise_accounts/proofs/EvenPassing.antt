@@ -18,8 +18,6 @@ use Rattle.replies.specs.Areas.{Areas, Outcome, outcome, judged, refused, withM
 use Rattle.route_choice.specs.Which.{none}
 use Rattle.queue_heads.specs.Head.{both}
 use Rattle.queue_joining.specs.Queue.{userReply, userArrivals, counted}
-use Rattle.numbers.specs.Numbers.{taken}
-use Rattle.numbers.specs.Taken.{withTaken}
 use Rattle.management_making.specs.Make.{withMade, makesReply}
 use Rattle.queue_moving.specs.Move.{apart}
 use Rattle.constants.specs.Constants.{t6}
@@ -30,7 +28,7 @@ use Rattle.passing_passage.specs.Passage.{linkOf, unreachable, ringBy, ringOf, 
 use Rattle.passing.specs.Pass.{marksTold, notReached, passed}
 use Rattle.passing_offering.specs.Host.{refuses, offered, fromHostBy, sent}
 use Rattle.promise_runs.proofs.Outcomes.{RegularIn, by-test, if-done}
-use Rattle.promise_accounts.proofs.Even.{KindsIn, Even, even-none, even-links, even-marks, EvenBy, untold, taken-even, refused-even, unjudged-even}
+use Rattle.promise_accounts.proofs.Even.{KindsIn, Even, even-none, even-marks, EvenBy, untold, refused-even, unjudged-even}
 use Rattle.promise_ledger.proofs.FreeKinds.{kinds-user}
 use Rattle.promise_ledger.proofs.Joined.{user-even}
 use Rattle.promise_accounts.proofs.Small.{Small, host-small}
@@ -79,9 +77,9 @@ module _ (test : ℕ → Bool) (a : Areas) (octets : List ℕ) (regular : Regula
       }
 
   -- one that has none
-  not-reached-even : (arriving fsn x : ℕ) → EvenBy test a (notReached plan arriving fsn x a) []
+  not-reached-even : (arriving x : ℕ) → EvenBy test a (notReached plan arriving x a) []
   unfolding notReached
-  not-reached-even arriving fsn x =
+  not-reached-even arriving x =
       let draft = prohibitedTo plan arriving x in
       let marks = marksTold plan a arriving x in
       let b : Areas = withMarks (withMade plan draft a) marks in
@@ -89,22 +87,17 @@ module _ (test : ℕ → Bool) (a : Areas) (octets : List ℕ) (regular : Regula
       (λ e.
       unjudged-even test a long (makesReply plan draft a) _
       (λ done.
-      untold test a 9 (withTaken arriving fsn b)
-      (even-links test a b 0 (even-marks test a (withMade plan draft a) 0 (made-even a octets regular test long plan draft) marks)
-      (taken (b .links) arriving fsn))))
-      (λ e. taken-even test a long arriving fsn 9)
+      untold test a 9 b (even-marks test a (withMade plan draft a) 0 (made-even a octets regular test long plan draft) marks)))
+      (λ e. untold test a 9 a (even-none test a long))
 
   -- from a link
-  pub passed-even : (arriving fsn : ℕ) (label : Label) (size : ℕ) → size ≤ 273 → EvenBy test a (passed plan arriving fsn label size a) []
+  pub passed-even : (arriving : ℕ) (label : Label) (size : ℕ) → size ≤ 273 → EvenBy test a (passed plan arriving label size a) []
   unfolding passed
-  passed-even arriving fsn label size small =
+  passed-even arriving label size small =
       by-test (λ (o : Outcome). EvenBy test a o []) (unreachable plan a label) _ _
-      (λ e. not-reached-even arriving fsn (label .dpc))
+      (λ e. not-reached-even arriving (label .dpc))
       (λ e.
-      unjudged-even test a long (placeReply a) _
-      (λ done.
-      untold test a 0 (withTaken arriving fsn (queued plan a label size))
-      (even-links test a (queued plan a label size) 0 (queued-even label size small e) (taken (queued plan a label size .links) arriving fsn))))
+      unjudged-even test a long (placeReply a) _ (λ done. untold test a 0 (queued plan a label size) (queued-even label size small e)))
 
   -- from the host
   offered-even : (label : Label) (size : ℕ) → size ≤ 273 → EvenBy test a (offered plan label size a) []

@@ -21,12 +21,12 @@ use Rattle.replies.specs.Areas.{Areas, areas, Outcome, outcome, withLinks}
 use Rattle.replies.proofs.Rows.{none-applies}
 use Rattle.lookup.specs.Lookup.{isLink}
 use Rattle.route_access.specs.Change.{isAccessible, changesTold}
-use Rattle.numbers.specs.Numbers.{taken}
-use Rattle.numbers.specs.Taken.{withTaken}
+use Rattle.numbers.specs.Taken.{takenBy}
 use Rattle.changeback_waiting.specs.Wait.{answers, answered, answeredBy}
 use Rattle.rerouting_marking.specs.Mark.{counts, marksAfter}
 use Rattle.rerouting.specs.Transfer.{accessTold, transferred}
-use Rattle.management.specs.Managed.{asked, carriedOut, managed}
+use Rattle.management_orders.specs.Carry.{carried}
+use Rattle.managing.specs.Managed.{asked, stepAsked, managed}
 use Rattle.discrimination.specs.declared.Came.{Came}
 use Rattle.discrimination.specs.declared.Came.the-variants.{Malformed, Foreign, Delivered, Managed, Passed}
 use Rattle.discrimination.specs.Discrimination.{fromLink}
@@ -61,17 +61,17 @@ module _ (test : ℕ → Bool) (a : Areas) (octets : List ℕ) (regular : Regula
 
   module _ (arriving fsn : ℕ) where
     -- a CBA
-    answered-even : (point slc code : ℕ) → EvenBy test a (answeredBy plan arriving fsn point slc code a) []
+    answered-even : (point slc code : ℕ) → EvenBy test a (answeredBy plan point slc code a) []
     unfolding answeredBy
     answered-even point slc code =
         by-test (λ (o : Outcome). EvenBy test a o []) (answers plan (a .links) point slc code) _ _
         (λ e.
-        let links = answered plan (taken (a .links) arriving fsn) point slc in
+        let links = answered plan (a .links) point slc in
         untold test a 0 (withLinks a links) (even-links test a a 0 (even-none test a long) links))
-        (λ e. taken-even test a long arriving fsn 11)
+        (λ e. untold test a 11 a (even-none test a long))
 
     -- a TFP, or a TFA
-    transferred-even : (point x : ℕ) (prohibits : Bool) → EvenBy test a (transferred plan arriving fsn point x prohibits a) []
+    transferred-even : (point x : ℕ) (prohibits : Bool) → EvenBy test a (transferred plan point x prohibits a) []
     unfolding transferred accessTold
     transferred-even point x prohibits =
         let marks = marksAfter plan (a .links) (a .marks) point x prohibits in
@@ -79,18 +79,18 @@ module _ (test : ℕ → Bool) (a : Areas) (octets : List ℕ) (regular : Regula
         (λ e.
         undropped test a _ _ (record { one = long; even = omega arith; apart = λ kinds. kinds })
         (no-drop (isAccessible plan (a .links) (a .marks)) (isAccessible plan (a .links) marks)))
-        (λ e. taken-even test a long arriving fsn 11)
+        (λ e. untold test a 11 a (even-none test a long))
 
     module _ (room : short (a .reports) ≡ false) (point slc : ℕ) where
       abbrev retired : Message → List ℕ
-      retired message = retiredByStep plan a (asked plan (a .links) (a .marks) arriving fsn point slc message)
+      retired message = retiredByStep plan a (stepAsked plan (a .links) (a .marks) arriving fsn point slc message)
 
       queued : (link : ℕ) → link < 32 → recordAt (a .links) link .sent ≤ countOf (a .spans) link
       queued link h = sent-queued (recordAt (a .links) link) (countOf (a .spans) link) (regular .each-link link h)
 
-      carries-out : (message : Message) → EvenBy test a (carriedOut plan arriving fsn point slc message a) (retired message)
+      carries-out : (message : Message) → EvenBy test a (carried plan (stepAsked plan (a .links) (a .marks) arriving fsn point slc message) a) (retired message)
       carries-out message =
-          carried-even test a octets regular long plan (asked plan (a .links) (a .marks) arriving fsn point slc message) arriving fsn room
+          carried-even test a octets regular long plan (stepAsked plan (a .links) (a .marks) arriving fsn point slc message) room
           (asked-bears (countOf (a .spans)) plan (a .links) (a .marks) queued arriving fsn point slc message)
 
       -- each of the nine management messages
@@ -110,11 +110,11 @@ module _ (test : ℕ → Bool) (a : Areas) (octets : List ℕ) (regular : Regula
     came-even : short (a .reports) ≡ false → KindsIn test a → (size : ℕ) (came : Came) → Small came size
         → EvenBy test a (receivedBy plan arriving fsn size came a) (retiredByMessage plan a arriving fsn came)
     unfolding receivedBy retiredByMessage reportsIn dropsOf tally Small
-    came-even room kinds size Malformed small = taken-even test a long arriving fsn 3
-    came-even room kinds size Foreign small = taken-even test a long arriving fsn 4
-    came-even room kinds size Delivered small = even-links test a a 0 (even-none test a long) (taken (a .links) arriving fsn)
+    came-even room kinds size Malformed small = untold test a 3 a (even-none test a long)
+    came-even room kinds size Foreign small = untold test a 4 a (even-none test a long)
+    came-even room kinds size Delivered small = even-none test a long
     came-even room kinds size (Managed order) small = managed-even room (order .point) (order .slc) (order .message)
-    came-even room kinds size (Passed label) small = passed-even test a octets regular long kinds plan arriving fsn label size small
+    came-even room kinds size (Passed label) small = passed-even test a octets regular long kinds plan arriving label size small
 
     pub received-even : KindsIn test a → (message : List ℕ)
         → EvenBy test a (received plan arriving fsn message a)
@@ -122,6 +122,9 @@ module _ (test : ℕ → Bool) (a : Areas) (octets : List ℕ) (regular : Regula
     unfolding received
     received-even kinds message =
         judged-even test a long (replyOf plan (a .links) arriving fsn (a .reports))
-        (receivedBy plan arriving fsn (length message) (fromLink plan message) a)
+        (takenBy arriving fsn (receivedBy plan arriving fsn (length message) (fromLink plan message) a))
         (retiredByMessage plan a arriving fsn (fromLink plan message))
-        (λ done. came-even (room-there plan a arriving fsn done) kinds (length message) (fromLink plan message) (link-small plan message))
+        (λ done.
+        taken-even test a arriving fsn (receivedBy plan arriving fsn (length message) (fromLink plan message) a)
+        (retiredByMessage plan a arriving fsn (fromLink plan message))
+        (came-even (room-there plan a arriving fsn done) kinds (length message) (fromLink plan message) (link-small plan message)))

@@ -21,7 +21,7 @@ use Rattle.management_steps.specs.Step.{nothing, answer, answerAndEnd, end, dra
 use Rattle.management_asking.specs.Ask.{lastReceived, emergencyOf, askCOO, askECO, askCOA, askECA}
 use Rattle.management_requests.specs.Request.{askCBD, allows, askRST}
 use Rattle.management_orders.specs.Carry.{answerReply}
-use Rattle.management.specs.Managed.{asked}
+use Rattle.managing.specs.Managed.{asked, stepAsked}
 use Rattle.discrimination.specs.declared.Order.{Order}
 use Rattle.discrimination.specs.declared.Came.{Came}
 use Rattle.discrimination.proofs.BySort.{by-managed}
@@ -59,7 +59,7 @@ module _ (plan : Plan) (links marks : List ℕ) (arriving fsn point slc : ℕ) w
   abbrev known : LinkRecord
   known = recordAt links link
 
-  asked-spares : (message : Message) → Spares (asked plan links marks arriving fsn point slc message)
+  asked-spares : (message : Message) → Spares (stepAsked plan links marks arriving fsn point slc message)
   unfolding asked askCOO askCOA askCBD askECO askECA askRST emergencyOf
   asked-spares (COO f) =
       by-test Spares (ltb link 32)
@@ -89,11 +89,11 @@ module _ (plan : Plan) (a : Areas) (octets : List ℕ) (regular : RegularIn a oc
   unchanged : (other : ℕ) → other < 33 → (new : List ℕ) × (queueOf a other ≡ queueOf a other ++ new)
   unchanged other h = ([], sym (append-nil (queueOf a other)))
 
-  step-starts : (arriving fsn : ℕ) (step : Step) → Bears (countOf (a .spans)) step → Spares step
-      → endingByStep plan a arriving fsn step .ends ≡ true
-      → Starts a (endingByStep plan a arriving fsn step)
+  step-starts : (step : Step) → Bears (countOf (a .spans)) step → Spares step
+      → endingByStep plan a step .ends ≡ true
+      → Starts a (endingByStep plan a step)
   unfolding endingByStep
-  step-starts arriving fsn step bears spares ends =
+  step-starts step bears spares ends =
       let first = and-eq-true-iff (eqb (step .reply) 0) (eqb (answerReply plan step a) 0 && step .ends) .0 ends in
       let next = and-eq-true-iff (eqb (answerReply plan step a) 0) (step .ends) .0 (first .1) in
       record {
@@ -107,9 +107,9 @@ module _ (plan : Plan) (a : Areas) (octets : List ℕ) (regular : RegularIn a oc
   message-starts arriving fsn =
       by-managed (λ (e : Ending). e .ends ≡ true → Starts a e) (noEnding a) unmet
       (λ (order : Order).
-      endingByStep plan a arriving fsn (asked plan (a .links) (a .marks) arriving fsn (order .point) (order .slc) (order .message)))
+      endingByStep plan a (stepAsked plan (a .links) (a .marks) arriving fsn (order .point) (order .slc) (order .message)))
       (λ order.
-      step-starts arriving fsn (asked plan (a .links) (a .marks) arriving fsn (order .point) (order .slc) (order .message))
+      step-starts (stepAsked plan (a .links) (a .marks) arriving fsn (order .point) (order .slc) (order .message))
       (asked-bears (countOf (a .spans)) plan (a .links) (a .marks)
       (λ link h. sent-queued (recordAt (a .links) link) (countOf (a .spans) link) (regular .each-link link h))
       arriving

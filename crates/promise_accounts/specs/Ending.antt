@@ -11,14 +11,13 @@ use Rattle.area_links.specs.LinkRecords.{recordAt}
 use Rattle.replies.specs.Reply.{ifDone}
 use Rattle.replies.specs.Areas.{Areas}
 use Rattle.queue_retiring.specs.Leave.{State, state}
-use Rattle.numbers.specs.Taken.{withTaken}
 use Rattle.changeover_cuts.specs.declared.Cut.{Cut}
 use Rattle.changeover_cuts.specs.Cuts.{cutNone, cutUnknown}
 use Rattle.changeover_failure.specs.Failure as Failure
 use Rattle.changeover_failure.specs.Overdue as Overdue
 use Rattle.management_steps.specs.declared.Step.{Step}
 use Rattle.management_orders.specs.Carry.{answerReply, withAnswer}
-use Rattle.management.specs.Managed.{asked}
+use Rattle.managing.specs.Managed.{stepAsked}
 use Rattle.discrimination.specs.declared.Order.{Order}
 use Rattle.discrimination.specs.declared.Came.{Came}
 use Rattle.discrimination.specs.Sorted.{ofManaged}
@@ -58,12 +57,12 @@ endingByFailure plan a link =
       parts = cutNone;
     }
 
--- COO, COA, ECO, ECA: by the step that the message asks, with its answer queued and the message taken (R119)
-unfoldable pub endingByStep : Plan → Areas → ℕ → ℕ → Step → Ending
-endingByStep plan a arriving fsn step =
+-- COO, COA, ECO, ECA: by the step that the message asks, with its answer queued; the message is taken after it (R119)
+unfoldable pub endingByStep : Plan → Areas → Step → Ending
+endingByStep plan a step =
     record {
       ends = eqb (step .reply) 0 && (eqb (answerReply plan step a) 0 && step .ends);
-      from = withTaken arriving fsn (withAnswer plan step a);
+      from = withAnswer plan step a;
       link = step .link;
       parts = step .parts;
     }
@@ -73,7 +72,7 @@ unfoldable pub endingByMessage : Plan → Areas → ℕ → ℕ → Came → End
 endingByMessage plan a arriving fsn came =
     ofManaged (noEnding a)
     (λ (order : Order).
-    endingByStep plan a arriving fsn (asked plan (a .links) (a .marks) arriving fsn (order .point) (order .slc) (order .message)))
+    endingByStep plan a (stepAsked plan (a .links) (a .marks) arriving fsn (order .point) (order .slc) (order .message)))
     came
 
 -- by every kind of event

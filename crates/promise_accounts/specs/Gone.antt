@@ -17,7 +17,7 @@ use Rattle.acknowledging.specs.Acknowledge as Acknowledge
 use Rattle.changeover_cuts.specs.declared.Cut.{Cut}
 use Rattle.management_steps.specs.declared.Step.{Step}
 use Rattle.management_orders.specs.Carry.{answerReply}
-use Rattle.management.specs.Managed.{asked}
+use Rattle.managing.specs.Managed.{stepAsked}
 use Rattle.discrimination.specs.declared.Order.{Order}
 use Rattle.discrimination.specs.declared.Came.{Came}
 use Rattle.discrimination.specs.Sorted.{ofManaged}
@@ -65,7 +65,7 @@ unfoldable pub retiredByMessage : Plan → Areas → ℕ → ℕ → Came → Li
 retiredByMessage plan a link fsn came =
     ofManaged []
     (λ (order : Order).
-    retiredByStep plan a (asked plan (a .links) (a .marks) link fsn (order .point) (order .slc) (order .message)))
+    retiredByStep plan a (stepAsked plan (a .links) (a .marks) link fsn (order .point) (order .slc) (order .message)))
     came
 
 -- those that a changeover number retires: it comes with a message

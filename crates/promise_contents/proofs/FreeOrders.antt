@@ -4,7 +4,6 @@ use mathlib.Core.Bool.{Bool, true, false}
 use mathlib.Core.List.{List}
 use Prim.Native.Nat.{ℕ, _≤_, _<_}
 use native.Mathlib.Omega.{arith}
-use lib.Dec.{eqb}
 use Rattle.plan.specs.declared.data.Plan.{Plan}
 use Rattle.area_links.specs.LinkRecords.{recordAt}
 use Rattle.queue_rings.specs.Ring.{countOf}
@@ -12,7 +11,6 @@ use Rattle.wire_messages.specs.declared.management.Message.{Message}
 use Rattle.wire_messages.specs.declared.management.Message.the-variants.{COO, COA, CBD, CBA, ECO, ECA, TFP, TFA, RST}
 use Rattle.replies.specs.Reply.{done}
 use Rattle.replies.specs.Areas.{Areas, Outcome, outcome, judged}
-use Rattle.numbers.specs.Taken.{withTaken, takenOnly}
 use Rattle.management_making.specs.Make.{withMade, makesReply}
 use Rattle.changeover_ending.specs.End.{outOfService}
 use Rattle.management_steps.specs.declared.Step.{Step}
@@ -20,13 +18,12 @@ use Rattle.management_orders.specs.Carry.{answerReply, withAnswer, endedBy, car
 use Rattle.changeback_waiting.specs.Wait.{answers, answeredBy}
 use Rattle.rerouting_marking.specs.Mark.{counts}
 use Rattle.rerouting.specs.Transfer.{transferred}
-use Rattle.management.specs.Managed.{asked, carriedOut, managed}
+use Rattle.managing.specs.Managed.{asked, stepAsked, managed}
 use Rattle.passing_passage.specs.Passage.{prohibitedTo, tells}
 use Rattle.passing.specs.Pass.{notReached}
 use Rattle.passing_offering.specs.Host.{sent}
 use Rattle.promise_runs.proofs.Outcomes.{RegularIn, by-test}
 use Rattle.promise_runs.proofs.KeepsMaking.{made-regular}
-use Rattle.promise_runs.proofs.KeepsOrders.{with-taken-regular}
 use Rattle.promise_accounts.proofs.EvenEnding.{sent-queued}
 use Rattle.promise_accounts.proofs.Bearing.{Bears, asked-bears}
 use Rattle.promise_contents.proofs.FreeEvents.{Stays, stays-none, judged-stays, out-stays}
@@ -37,7 +34,7 @@ module _ (plan : Plan) (a : Areas) (octets : List ℕ) (regular : RegularIn a oc
   abbrev pub StaysBy : Outcome → Type 0
   StaysBy o = Stays a (o .after)
 
-  module _ (step : Step) (arriving fsn : ℕ) where
+  module _ (step : Step) where
     abbrev answered : Areas
     answered = withAnswer plan step a
 
@@ -57,67 +54,60 @@ module _ (plan : Plan) (a : Areas) (octets : List ℕ) (regular : RegularIn a oc
         (λ e. stays-none a)
 
     -- the link that goes out by a step, if one does
-    ended-stays : Bears (countOf (a .spans)) step → StaysBy (endedBy plan step (withTaken arriving fsn answered))
+    ended-stays : Bears (countOf (a .spans)) step → StaysBy (endedBy plan step answered)
     unfolding endedBy
     ended-stays bears =
-        let b : Areas = withTaken arriving fsn answered in
-        by-test StaysBy (step .ends) (outOfService plan b (step .link) (step .parts)) (outcome (done 0) b)
-        (λ ends.
-        out-stays a b octets answer-stays (with-taken-regular octets answered answer-regular arriving fsn) plan (step .link)
-        (omega (arith, bears ends .0))
-        (step .parts))
+        by-test StaysBy (step .ends) (outOfService plan answered (step .link) (step .parts)) (outcome (done 0) answered)
+        (λ ends. out-stays a answered octets answer-stays answer-regular plan (step .link) (omega (arith, bears ends .0)) (step .parts))
         (λ e. answer-stays)
 
     -- a step that is carried out
-    carried-stays : Bears (countOf (a .spans)) step → StaysBy (carried plan arriving fsn step a)
+    carried-stays : Bears (countOf (a .spans)) step → StaysBy (carried plan step a)
     unfolding carried
     carried-stays bears =
-        let o : Outcome = endedBy plan step (withTaken arriving fsn answered) in
-        by-test StaysBy (eqb (step .reply) 0) (judged (answerReply plan step a) o a) (takenOnly arriving fsn (step .reply) a)
-        (λ e. judged-stays a (answerReply plan step a) o (λ done. ended-stays bears))
-        (λ e. stays-none a)
+        judged-stays a (step .reply) (judged (answerReply plan step a) (endedBy plan step answered) a)
+        (λ asks. judged-stays a (answerReply plan step a) (endedBy plan step answered) (λ done. ended-stays bears))
 
-  module _ (arriving fsn : ℕ) where
-    module _ (point slc : ℕ) where
-      -- what is sent of a link is in its queue
-      queued-there : (link : ℕ) → link < 32 → recordAt (a .links) link .sent ≤ countOf (a .spans) link
-      queued-there link h = sent-queued (recordAt (a .links) link) (countOf (a .spans) link) (regular .each-link link h)
+  module _ (arriving fsn point slc : ℕ) where
+    -- what is sent of a link is in its queue
+    queued-there : (link : ℕ) → link < 32 → recordAt (a .links) link .sent ≤ countOf (a .spans) link
+    queued-there link h = sent-queued (recordAt (a .links) link) (countOf (a .spans) link) (regular .each-link link h)
 
-      -- one that is answered, or ends a changeover
-      carries-out : (message : Message) → StaysBy (carriedOut plan arriving fsn point slc message a)
-      carries-out message =
-          carried-stays (asked plan (a .links) (a .marks) arriving fsn point slc message) arriving fsn
-          (asked-bears (countOf (a .spans)) plan (a .links) (a .marks) queued-there arriving fsn point slc message)
+    -- one that is answered, or ends a changeover
+    carries-out : (message : Message) → StaysBy (carried plan (stepAsked plan (a .links) (a .marks) arriving fsn point slc message) a)
+    carries-out message =
+        carried-stays (stepAsked plan (a .links) (a .marks) arriving fsn point slc message)
+        (asked-bears (countOf (a .spans)) plan (a .links) (a .marks) queued-there arriving fsn point slc message)
 
-      -- a CBA
-      answered-stays : (code : ℕ) → StaysBy (answeredBy plan arriving fsn point slc code a)
-      unfolding answeredBy
-      answered-stays code = by-test StaysBy (answers plan (a .links) point slc code) _ _ (λ e. stays-none a) (λ e. stays-none a)
+    -- a CBA
+    answered-stays : (code : ℕ) → StaysBy (answeredBy plan point slc code a)
+    unfolding answeredBy
+    answered-stays code = by-test StaysBy (answers plan (a .links) point slc code) _ _ (λ e. stays-none a) (λ e. stays-none a)
 
-      -- a TFP, or a TFA
-      transferred-stays : (x : ℕ) (prohibits : Bool) → StaysBy (transferred plan arriving fsn point x prohibits a)
-      unfolding transferred
-      transferred-stays x prohibits =
-          by-test StaysBy (counts plan (a .marks) point x prohibits) _ _ (λ e. stays-none a) (λ e. stays-none a)
+    -- a TFP, or a TFA
+    transferred-stays : (x : ℕ) (prohibits : Bool) → StaysBy (transferred plan point x prohibits a)
+    unfolding transferred
+    transferred-stays x prohibits =
+        by-test StaysBy (counts plan (a .marks) point x prohibits) _ _ (λ e. stays-none a) (λ e. stays-none a)
 
-      -- each of the nine management messages
-      pub managed-stays : (message : Message) → StaysBy (managed plan arriving fsn point slc message a)
-      unfolding managed asked
-      managed-stays (COO f) = carries-out (COO f)
-      managed-stays (COA f) = carries-out (COA f)
-      managed-stays (CBD code) = carries-out (CBD code)
-      managed-stays (CBA code) = answered-stays code
-      managed-stays ECO = carries-out ECO
-      managed-stays ECA = carries-out ECA
-      managed-stays (TFP x) = transferred-stays x true
-      managed-stays (TFA x) = transferred-stays x false
-      managed-stays (RST x) = carries-out (RST x)
+    -- each of the nine management messages
+    pub managed-stays : (message : Message) → StaysBy (managed plan arriving fsn point slc message a)
+    unfolding managed asked
+    managed-stays (COO f) = carries-out (COO f)
+    managed-stays (COA f) = carries-out (COA f)
+    managed-stays (CBD code) = carries-out (CBD code)
+    managed-stays (CBA code) = answered-stays code
+    managed-stays ECO = carries-out ECO
+    managed-stays ECA = carries-out ECA
+    managed-stays (TFP x) = transferred-stays x true
+    managed-stays (TFA x) = transferred-stays x false
+    managed-stays (RST x) = carries-out (RST x)
 
-    -- one that has no way
-    pub not-reached-stays : (x : ℕ) → StaysBy (notReached plan arriving fsn x a)
-    unfolding notReached
-    not-reached-stays x =
-        let draft = prohibitedTo plan arriving x in
-        by-test StaysBy (tells plan (a .marks) x) _ _
-        (λ e. judged-stays a (makesReply plan draft a) _ (λ done. made-stays a octets regular plan draft))
-        (λ e. stays-none a)
+  -- one that has no way
+  pub not-reached-stays : (arriving x : ℕ) → StaysBy (notReached plan arriving x a)
+  unfolding notReached
+  not-reached-stays arriving x =
+      let draft = prohibitedTo plan arriving x in
+      by-test StaysBy (tells plan (a .marks) x) _ _
+      (λ e. judged-stays a (makesReply plan draft a) _ (λ done. made-stays a octets regular plan draft))
+      (λ e. stays-none a)

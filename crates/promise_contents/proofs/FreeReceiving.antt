@@ -12,6 +12,8 @@ use Rattle.queue_store.specs.Sound.{Kinds}
 use Rattle.wire.specs.declared.header.Label.{Label}
 use Rattle.replies.specs.Reply.{done}
 use Rattle.replies.specs.Areas.{Areas, Outcome}
+use Rattle.numbers.specs.Numbers.{isTaken}
+use Rattle.numbers.specs.Taken.{withTaken, takenBy}
 use Rattle.discrimination.specs.declared.Came.{Came}
 use Rattle.discrimination.specs.declared.Came.the-variants.{Malformed, Foreign, Delivered, Managed, Passed}
 use Rattle.discrimination.specs.Discrimination.{fromLink, fromHost}
@@ -41,10 +43,10 @@ module _ (plan : Plan) (a : Areas) (octets : List ℕ) (regular : RegularIn a oc
       small
 
   -- from a link
-  passed-stays : (arriving fsn : ℕ) (label : Label) (size : ℕ) → size ≤ 273 → StaysWith (passed plan arriving fsn label size a)
+  passed-stays : (arriving : ℕ) (label : Label) (size : ℕ) → size ≤ 273 → StaysWith (passed plan arriving label size a)
   unfolding passed
-  passed-stays arriving fsn label size small =
-      by-test StaysWith (unreachable plan a label) _ _ (λ e. not-reached-stays plan a octets regular arriving fsn (label .dpc))
+  passed-stays arriving label size small =
+      by-test StaysWith (unreachable plan a label) _ _ (λ e. not-reached-stays plan a octets regular arriving (label .dpc))
       (λ e. judged-stays a (placeReply a) _ (λ done. queued-stays label size small e))
 
   -- by what it is
@@ -54,14 +56,21 @@ module _ (plan : Plan) (a : Areas) (octets : List ℕ) (regular : RegularIn a oc
   came-stays arriving fsn size Foreign small = stays-none a
   came-stays arriving fsn size Delivered small = stays-none a
   came-stays arriving fsn size (Managed order) small = managed-stays plan a octets regular arriving fsn (order .point) (order .slc) (order .message)
-  came-stays arriving fsn size (Passed label) small = passed-stays arriving fsn label size small
+  came-stays arriving fsn size (Passed label) small = passed-stays arriving label size small
+
+  -- taken, or not
+  taken-stays : (arriving fsn : ℕ) (o : Outcome) → StaysWith o → StaysWith (takenBy arriving fsn o)
+  taken-stays arriving fsn o stays =
+      by-test (Stays a) (isTaken (o .answer .reply)) (withTaken arriving fsn (o .after)) (o .after) (λ e. stays) (λ e. stays)
 
   -- judged by the reply first
   pub received-stays : (arriving fsn : ℕ) (message : List ℕ) → StaysWith (received plan arriving fsn message a)
   unfolding received
   received-stays arriving fsn message =
       judged-stays a (replyOf plan (a .links) arriving fsn (a .reports)) _
-      (λ done. came-stays arriving fsn (length message) (fromLink plan message) (link-small plan message))
+      (λ done.
+      taken-stays arriving fsn (receivedBy plan arriving fsn (length message) (fromLink plan message) a)
+      (came-stays arriving fsn (length message) (fromLink plan message) (link-small plan message)))
 
   -- from the host
   offered-stays : (label : Label) (size : ℕ) → size ≤ 273 → StaysWith (offered plan label size a)

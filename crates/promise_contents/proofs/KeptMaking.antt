@@ -3,14 +3,12 @@
 use mathlib.Core.Path.{_≡_}
 use mathlib.Core.List.{List}
 use Prim.Native.Nat.{ℕ}
-use lib.Dec.{eqb}
 use lib.ListN.{length}
 use Rattle.plan.specs.declared.data.Plan.{Plan}
 use Rattle.replies.specs.Reply.{done}
 use Rattle.replies.specs.Areas.{Areas, Outcome, outcome, judged, refused}
 use Rattle.queue_heads.specs.Head.{both}
 use Rattle.queue_joining.specs.Queue.{managementQueues, managementRow, managementArrivals}
-use Rattle.numbers.specs.Taken.{withTaken, takenOnly}
 use Rattle.management_making.specs.declared.Draft.{Draft}
 use Rattle.management_making.specs.Make.{Held, pathOf, hasPath, made, heldIn, withMade}
 use Rattle.changeover_cuts.specs.declared.Cut.{Cut}
@@ -85,10 +83,9 @@ module _ (a : Areas) (octets : List ℕ) where
           (λ e. kept)
 
       -- a step that is carried out
-      pub carried-kept : (arriving fsn : ℕ) (step : Step) → KeptBy (carried plan arriving fsn step a)
+      pub carried-kept : (step : Step) → KeptBy (carried plan step a)
       unfolding carried
-      carried-kept arriving fsn step =
-          let then : Areas = withTaken arriving fsn (withAnswer plan step a) in
-          by-test KeptBy (eqb (step .reply) 0) (judged (answerReply plan step a) (endedBy plan step then) a) (takenOnly arriving fsn (step .reply) a)
-          (λ e. judged-kept (answerReply plan step a) (endedBy plan step then) (ended-kept step then (answer-kept step)))
-          (λ e. kept-none now)
+      carried-kept step =
+          let ended : Outcome = endedBy plan step (withAnswer plan step a) in
+          judged-kept (step .reply) (judged (answerReply plan step a) ended a)
+          (judged-kept (answerReply plan step a) ended (ended-kept step (withAnswer plan step a) (answer-kept step)))

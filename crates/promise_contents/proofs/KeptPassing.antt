@@ -10,7 +10,6 @@ use Rattle.wire.specs.declared.header.Label.{Label}
 use Rattle.replies.specs.Reply.{plain, done}
 use Rattle.replies.specs.Areas.{Areas, Outcome, outcome, judged, refused, withMarks}
 use Rattle.queue_heads.specs.Head.{both}
-use Rattle.numbers.specs.Taken.{withTaken}
 use Rattle.management_making.specs.Make.{withMade, makesReply}
 use Rattle.discrimination.specs.declared.Came.{Came}
 use Rattle.discrimination.specs.declared.Came.the-variants.{Malformed, Foreign, Delivered, Managed, Passed}
@@ -46,25 +45,25 @@ module _ (plan : Plan) (a : Areas) (octets : List ℕ) (all : length (a .rows) �
       user-kept (a .rows) octets (a .arrivals) all (both (a .spans) (a .rings)) (label .dpc) (label .sls) message
 
   -- one that has none
-  not-reached-kept : (arriving fsn x : ℕ) → KeptBy a octets (notReached plan arriving fsn x a)
+  not-reached-kept : (arriving x : ℕ) → KeptBy a octets (notReached plan arriving x a)
   unfolding notReached
-  not-reached-kept arriving fsn x =
+  not-reached-kept arriving x =
       let draft = prohibitedTo plan arriving x in
-      let then : Areas = withTaken arriving fsn (withMarks (withMade plan draft a) (marksTold plan a arriving x)) in
+      let then : Areas = withMarks (withMade plan draft a) (marksTold plan a arriving x) in
       by-test (KeptBy a octets) (tells plan (a .marks) x) (judged (makesReply plan draft a) (outcome (plain 9) then) a)
-      (outcome (plain 9) (withTaken arriving fsn a))
+      (outcome (plain 9) a)
       (λ e. judged-kept a octets (makesReply plan draft a) (outcome (plain 9) then) (made-kept a octets all plan draft))
       (λ e. kept-none (contentIn a octets))
 
   -- from a link
-  pub passed-kept : (arriving fsn : ℕ) (label : Label) (message : List ℕ)
-      → KeptWith (passed plan arriving fsn label (length message) a) (octetsPassed plan label a octets message)
+  pub passed-kept : (arriving : ℕ) (label : Label) (message : List ℕ)
+      → KeptWith (passed plan arriving label (length message) a) (octetsPassed plan label a octets message)
   unfolding passed octetsPassed queued
-  passed-kept arriving fsn label message =
-      let o : Outcome = outcome (done 0) (withTaken arriving fsn (queued plan a label (length message))) in
-      both-by-test KeptWith (unreachable plan a label) (notReached plan arriving fsn (label .dpc) a) (judged (placeReply a) o a) octets
+  passed-kept arriving label message =
+      let o : Outcome = outcome (done 0) (queued plan a label (length message)) in
+      both-by-test KeptWith (unreachable plan a label) (notReached plan arriving (label .dpc) a) (judged (placeReply a) o a) octets
       (octetsQueued a octets message)
-      (λ e. not-reached-kept arriving fsn (label .dpc))
+      (λ e. not-reached-kept arriving (label .dpc))
       (λ e. place-kept message o (queued-kept label message))
 
   -- from the host

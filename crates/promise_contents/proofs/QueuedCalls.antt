@@ -12,7 +12,8 @@ use Rattle.queue_store.specs.Sound.{Sound, Kinds}
 use Rattle.wire.specs.declared.header.Label.{Label}
 use Rattle.replies.specs.Reply.{plain, done}
 use Rattle.replies.specs.Areas.{Areas, Outcome, outcome, judged, refused, withMarks}
-use Rattle.numbers.specs.Taken.{withTaken}
+use Rattle.numbers.specs.Numbers.{isTaken}
+use Rattle.numbers.specs.Taken.{withTaken, takenBy}
 use Rattle.management_making.specs.Make.{withMade, makesReply}
 use Rattle.discrimination.specs.declared.Came.{Came}
 use Rattle.discrimination.specs.declared.Came.the-variants.{Malformed, Foreign, Delivered, Managed, Passed}
@@ -40,13 +41,13 @@ module _
 
   module _ (small : length message ≤ 273) where
     -- one that has no way gets another reply
-    not-reached : (arriving fsn x : ℕ) → StandsBy (notReached plan arriving fsn x a) octets
+    not-reached : (arriving x : ℕ) → StandsBy (notReached plan arriving x a) octets
     unfolding notReached
-    not-reached arriving fsn x =
+    not-reached arriving x =
         let draft = prohibitedTo plan arriving x in
-        let then : Outcome = outcome (plain 9) (withTaken arriving fsn (withMarks (withMade plan draft a) (marksTold plan a arriving x))) in
+        let then : Outcome = outcome (plain 9) (withMarks (withMade plan draft a) (marksTold plan a arriving x)) in
         by-test (λ (o : Outcome). StandsBy o octets) (tells plan (a .marks) x) (judged (makesReply plan draft a) then a)
-        (outcome (plain 9) (withTaken arriving fsn a))
+        (outcome (plain 9) a)
         (λ e.
         by-test (λ (o : Outcome). StandsBy o octets) (eqb (makesReply plan draft a) 0) then (refused (makesReply plan draft a) a)
         (λ made none. absurd (omega arith))
@@ -54,14 +55,14 @@ module _
         (λ e none. absurd (omega arith))
 
     -- from a link
-    passed-stands : (arriving fsn : ℕ) (label : Label)
-        → StandsBy (passed plan arriving fsn label (length message) a) (octetsPassed plan label a octets message)
+    passed-stands : (arriving : ℕ) (label : Label)
+        → StandsBy (passed plan arriving label (length message) a) (octetsPassed plan label a octets message)
     unfolding passed octetsPassed queued
-    passed-stands arriving fsn label =
-        let o : Outcome = outcome (done 0) (withTaken arriving fsn (queued plan a label (length message))) in
-        both-by-test StandsBy (unreachable plan a label) (notReached plan arriving fsn (label .dpc) a) (judged (placeReply a) o a) octets
+    passed-stands arriving label =
+        let o : Outcome = outcome (done 0) (queued plan a label (length message)) in
+        both-by-test StandsBy (unreachable plan a label) (notReached plan arriving (label .dpc) a) (judged (placeReply a) o a) octets
         (octetsQueued a octets message)
-        (λ e. not-reached arriving fsn (label .dpc))
+        (λ e. not-reached arriving (label .dpc))
         (λ e.
         place-stands plan a octets sound kinds one message small o
         (λ placed none. queued-stands plan a octets sound kinds one message small label e placed))
@@ -107,7 +108,14 @@ module _
       Small came (length message)
       → StandsBy (receivedBy plan arriving fsn (length message) came a) (Receive.octetsBy plan came a octets message))
       is
-      (λ small. passed-stands small arriving fsn label)
+      (λ small. passed-stands small arriving label)
+
+  -- taken, or not
+  taken-stands : (arriving fsn : ℕ) (o : Outcome) (written : List ℕ) → StandsBy o written → StandsBy (takenBy arriving fsn o) written
+  taken-stands arriving fsn o written stands =
+      by-test (λ (b : Areas). StandsBy (outcome (o .answer) b) written) (isTaken (o .answer .reply)) (withTaken arriving fsn (o .after)) (o .after)
+      (λ e. stands)
+      (λ e. stands)
 
   -- judged by the reply first
   pub received-stands : (arriving fsn : ℕ) (label : Label) → fromLink plan message ≡ Passed label
@@ -115,8 +123,8 @@ module _
   unfolding received octetsReceived
   received-stands arriving fsn label is =
       let reply = replyOf plan (a .links) arriving fsn (a .reports) in
-      both-by-test StandsBy (eqb reply 0) (receivedBy plan arriving fsn (length message) (fromLink plan message) a) (refused reply a)
-      (Receive.octetsBy plan (fromLink plan message) a octets message)
-      octets
-      (λ e. came-stands arriving fsn label (fromLink plan message) (sym is) (link-small plan message))
+      let became : Outcome = receivedBy plan arriving fsn (length message) (fromLink plan message) a in
+      let written = Receive.octetsBy plan (fromLink plan message) a octets message in
+      both-by-test StandsBy (eqb reply 0) (takenBy arriving fsn became) (refused reply a) written octets
+      (λ e. taken-stands arriving fsn became written (came-stands arriving fsn label (fromLink plan message) (sym is) (link-small plan message)))
       (not-done reply)

@@ -14,10 +14,9 @@ use Rattle.plan.proofs.Split.{both-false}
 use Rattle.area_flags.specs.Flags.{flagAt}
 use Rattle.area_links.specs.LinkRecords.{recordAt}
 use Rattle.wire.specs.declared.header.Label.{Label}
-use Rattle.replies.specs.Areas.{Areas, Outcome, withMarks}
+use Rattle.replies.specs.Areas.{Areas, Outcome}
 use Rattle.route_choice.specs.Which.{none}
 use Rattle.queue_heads.specs.Head.{both}
-use Rattle.numbers.specs.Taken.{withTaken}
 use Rattle.management_making.specs.Make.{withMade, makesReply}
 use Rattle.queue_moving.specs.Move.{apart}
 use Rattle.constants.specs.Constants.{t6}
@@ -28,9 +27,8 @@ use Rattle.passing_passage.specs.Passage.{linkOf, unreachable, ringBy, ringOf, 
 use Rattle.passing.specs.Pass.{marksTold, notReached, passed}
 use Rattle.passing_offering.specs.Host.{refuses, offered, fromHostBy, sent}
 use Rattle.promise_runs.proofs.Outcomes.{RegularIn, by-test, if-done}
-use Rattle.promise_runs.proofs.KeepsMaking.{made-regular}
 use Rattle.promise_ledger.proofs.Behind.{user-joined}
-use Rattle.promise_farend.proofs.Onward.{same-self, Onward, onward-none, onward-taken, onward-marks}
+use Rattle.promise_farend.proofs.Onward.{same-self, Onward, onward-none, onward-marks}
 use Rattle.promise_farend.proofs.OnwardMade.{made-onward}
 
 module _ (plan : Plan) (a : Areas) (octets : List ℕ) (regular : RegularIn a octets) where
@@ -58,38 +56,23 @@ module _ (plan : Plan) (a : Areas) (octets : List ℕ) (regular : RegularIn a oc
         records = λ link l other. same-self (recordAt (a .links) link);
       }
 
-  pub taken-onward : (b : Areas) → RegularIn b octets → On b → (arriving fsn : ℕ) → On (withTaken arriving fsn b)
-  taken-onward b regular-b onward arriving fsn = onward-taken 32 a b (regular-b .links-long) onward arriving fsn
+  not-reached-onward : (arriving x : ℕ) → On (notReached plan arriving x a .after)
+  unfolding notReached
+  not-reached-onward arriving x =
+      let draft = prohibitedTo plan arriving x in
+      by-test (λ (o : Outcome). On (o .after)) (tells plan (a .marks) x) _ _
+      (λ e.
+      if-done (λ (o : Outcome). On (o .after)) (makesReply plan draft a) _ _
+      (λ done. onward-marks 32 a (withMade plan draft a) (made-onward a octets regular plan draft) (marksTold plan a arriving x))
+      (onward-none 32 a))
+      (λ e. onward-none 32 a)
 
-  module _ (arriving fsn : ℕ) where
-    pub taken-only : On (withTaken arriving fsn a)
-    taken-only = taken-onward a regular (onward-none 32 a) arriving fsn
-
-    not-reached-onward : (x : ℕ) → On (notReached plan arriving fsn x a .after)
-    unfolding notReached
-    not-reached-onward x =
-        let draft = prohibitedTo plan arriving x in
-        let marks = marksTold plan a arriving x in
-        by-test (λ (o : Outcome). On (o .after)) (tells plan (a .marks) x) _ _
-        (λ e.
-        if-done (λ (o : Outcome). On (o .after)) (makesReply plan draft a) _ _
-        (λ done.
-        taken-onward (withMarks (withMade plan draft a) marks) (made-regular a octets regular plan draft)
-        (onward-marks 32 a (withMade plan draft a) (made-onward a octets regular plan draft) marks)
-        arriving
-        fsn)
-        (onward-none 32 a))
-        (λ e. taken-only)
-
-    pub passed-onward : (label : Label) (size : ℕ) → On (passed plan arriving fsn label size a .after)
-    unfolding passed queued
-    passed-onward label size =
-        by-test (λ (o : Outcome). On (o .after)) (unreachable plan a label) _ _ (λ e. not-reached-onward (label .dpc))
-        (λ e.
-        if-done (λ (o : Outcome). On (o .after)) (placeReply a) _ _
-        (λ done.
-        onward-taken 32 a (queued plan a label size) (regular .links-long) (queued-onward label size e) arriving fsn)
-        (onward-none 32 a))
+  -- from a link
+  pub passed-onward : (arriving : ℕ) (label : Label) (size : ℕ) → On (passed plan arriving label size a .after)
+  unfolding passed queued
+  passed-onward arriving label size =
+      by-test (λ (o : Outcome). On (o .after)) (unreachable plan a label) _ _ (λ e. not-reached-onward arriving (label .dpc))
+      (λ e. if-done (λ (o : Outcome). On (o .after)) (placeReply a) _ _ (λ done. queued-onward label size e) (onward-none 32 a))
 
   -- from the host
   host-onward : (size : ℕ) (came : Came) → On (fromHostBy plan came size a .after)

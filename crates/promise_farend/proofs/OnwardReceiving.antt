@@ -18,7 +18,8 @@ use Rattle.replies.specs.Reply.{done, ifDone}
 use Rattle.replies.specs.Areas.{Areas, Outcome, outcome, refused}
 use Rattle.route_choice.specs.Which.{none}
 use Rattle.lookup.specs.Lookup.{linkNamed}
-use Rattle.numbers.specs.Taken.{withTaken, takenOnly}
+use Rattle.numbers.specs.Numbers.{isTaken}
+use Rattle.numbers.specs.Taken.{withTaken, takenBy}
 use Rattle.management_making.specs.Make.{withMade}
 use Rattle.changeover_ending.specs.End.{outOfService}
 use Rattle.changeback_opening.specs.Opening.{waits, stopped}
@@ -27,7 +28,7 @@ use Rattle.rerouting_marking.specs.Mark.{counts}
 use Rattle.rerouting.specs.Transfer.{transferred}
 use Rattle.management_steps.specs.declared.Step.{Step}
 use Rattle.management_orders.specs.Carry.{answerReply, withAnswer, endedBy, carried}
-use Rattle.management.specs.Managed.{asked, managed}
+use Rattle.managing.specs.Managed.{asked, stepAsked, managed}
 use Rattle.discrimination.specs.declared.Came.{Came}
 use Rattle.discrimination.specs.declared.Came.the-variants.{Malformed, Foreign, Delivered, Managed, Passed}
 use Rattle.discrimination.specs.Discrimination.{fromLink}
@@ -35,7 +36,7 @@ use Rattle.receiving.specs.Receive.{receivedBy, received}
 use Rattle.receiving.specs.Receive as Receive
 use Rattle.promise_runs.proofs.Records.{record-rewritten}
 use Rattle.promise_runs.proofs.Outcomes.{RegularIn, by-test, if-both-done}
-use Rattle.promise_runs.proofs.KeepsOrders.{with-taken-regular}
+use Rattle.promise_runs.proofs.KeepsReceiving.{came-regular}
 use Rattle.promise_accounts.specs.Ending.{Ending, noEnding, endingByStep, endingByMessage}
 use Rattle.promise_accounts.proofs.Answers.{answer-regular, answer-reports}
 use Rattle.promise_accounts.proofs.Bearing.{Bears, asked-bears}
@@ -44,7 +45,7 @@ use Rattle.promise_accounts.proofs.EvenReceiving.{room-there}
 use Rattle.promise_farend.proofs.Tests.{three-tests}
 use Rattle.promise_farend.proofs.Onward.{Same, Onward, onward-none, onward-on, onward-stored, onward-taken}
 use Rattle.promise_farend.proofs.OnwardMade.{made-onward, out-onward}
-use Rattle.promise_farend.proofs.OnwardPassing.{taken-only, passed-onward}
+use Rattle.promise_farend.proofs.OnwardPassing.{passed-onward}
 
 -- the link that an ending is about, none where there is none
 abbrev pub butOf : Ending → ℕ
@@ -67,23 +68,22 @@ stopped-same known timer =
 
 module _ (plan : Plan) (a : Areas) (octets : List ℕ) (regular : RegularIn a octets) (arriving fsn : ℕ) where
   -- a CBA
-  answered-onward : (point slc code : ℕ) → Onward 32 a (answeredBy plan arriving fsn point slc code a .after)
+  answered-onward : (point slc code : ℕ) → Onward 32 a (answeredBy plan point slc code a .after)
   unfolding answeredBy answered
   answered-onward point slc code =
-      let b : Areas = withTaken arriving fsn a in
       let link = linkNamed plan point slc in
       by-test (λ (o : Outcome). Onward 32 a (o .after)) (answers plan (a .links) point slc code) _ _
       (λ e.
-      onward-stored 32 a b (with-taken-regular octets a regular arriving fsn .links-long) (taken-only plan a octets regular arriving fsn)
-      (record-rewritten (b .links) link (stopped (recordAt (b .links) link) 4))
-      (stopped-same (recordAt (b .links) link) 4))
-      (λ e. taken-only plan a octets regular arriving fsn)
+      onward-stored 32 a a (regular .links-long) (onward-none 32 a)
+      (record-rewritten (a .links) link (stopped (recordAt (a .links) link) 4))
+      (stopped-same (recordAt (a .links) link) 4))
+      (λ e. onward-none 32 a)
 
   -- a TFP, or a TFA
-  transferred-onward : (point x : ℕ) (prohibits : Bool) → Onward 32 a (transferred plan arriving fsn point x prohibits a .after)
+  transferred-onward : (point x : ℕ) (prohibits : Bool) → Onward 32 a (transferred plan point x prohibits a .after)
   unfolding transferred
   transferred-onward point x prohibits =
-      let here = taken-only plan a octets regular arriving fsn in
+      let here = onward-none 32 a in
       by-test (λ (o : Outcome). Onward 32 a (o .after)) (counts plan (a .marks) point x prohibits) _ _
       (λ e. record { queues = here .queues; records = here .records })
       (λ e. here)
@@ -91,23 +91,16 @@ module _ (plan : Plan) (a : Areas) (octets : List ℕ) (regular : RegularIn a oc
   -- a step that is carried out: all but the link that it takes out go on
   module _ (step : Step) (wide : short (a .reports) ≡ false) (bears : Bears (countOf (a .spans)) step) where
     abbrev b : Areas
-    b = withTaken arriving fsn (withAnswer plan step a)
-
-    b-regular : RegularIn b octets
-    b-regular = with-taken-regular octets (withAnswer plan step a) (answer-regular a octets regular plan step) arriving fsn
+    b = withAnswer plan step a
 
     answered-first : Onward 32 a b
     unfolding withAnswer
     answered-first =
-        onward-taken 32 a (withAnswer plan step a) (answer-regular a octets regular plan step .links-long) answer-made arriving fsn
-      where
-        answer-made : Onward 32 a (withAnswer plan step a)
-        answer-made =
-            by-test (λ (c : Areas). Onward 32 a c) (step .answers) (withMade plan (step .draft) a) a
-            (λ e. made-onward a octets regular plan (step .draft))
-            (λ e. onward-none 32 a)
+        by-test (λ (c : Areas). Onward 32 a c) (step .answers) (withMade plan (step .draft) a) a
+        (λ e. made-onward a octets regular plan (step .draft))
+        (λ e. onward-none 32 a)
 
-    carried-onward : Onward (butOf (endingByStep plan a arriving fsn step)) a (carried plan arriving fsn step a .after)
+    carried-onward : Onward (butOf (endingByStep plan a step)) a (carried plan step a .after)
     unfolding carried endedBy endingByStep
     carried-onward =
         three-tests (λ (ends : Bool) (o : Outcome). Onward (cond ends (step .link) 32) a (o .after)) (eqb (step .reply) 0)
@@ -116,21 +109,21 @@ module _ (plan : Plan) (a : Areas) (octets : List ℕ) (regular : RegularIn a oc
         (outOfService plan b (step .link) (step .parts))
         (outcome (done 0) b)
         (refused (answerReply plan step a) a)
-        (takenOnly arriving fsn (step .reply) a)
+        (refused (step .reply) a)
         (λ ends.
         onward-on (step .link) a b (outOfService plan b (step .link) (step .parts) .after) (onward-any a b answered-first (step .link))
-        (out-onward b octets b-regular plan (step .link) (bears ends .0) (ap short (answer-reports a octets regular plan step) ∙ wide) (step .parts)))
+        (out-onward b octets (answer-regular a octets regular plan step) plan (step .link) (bears ends .0) (ap short (answer-reports a octets regular plan step) ∙ wide) (step .parts)))
         answered-first
         (onward-none 32 a)
-        (taken-only plan a octets regular arriving fsn)
+        (onward-none 32 a)
 
   -- each of the nine management messages
   module _ (wide : short (a .reports) ≡ false) (point slc : ℕ) where
     abbrev asks : Message → Step
-    asks message = asked plan (a .links) (a .marks) arriving fsn point slc message
+    asks message = stepAsked plan (a .links) (a .marks) arriving fsn point slc message
 
     carries-out : (message : Message)
-        → Onward (butOf (endingByStep plan a arriving fsn (asks message))) a (carried plan arriving fsn (asks message) a .after)
+        → Onward (butOf (endingByStep plan a (asks message))) a (carried plan (asks message) a .after)
     carries-out message =
         carried-onward (asks message) wide
         (asked-bears (countOf (a .spans)) plan (a .links) (a .marks)
@@ -142,7 +135,7 @@ module _ (plan : Plan) (a : Areas) (octets : List ℕ) (regular : RegularIn a oc
         message)
 
     managed-onward : (message : Message)
-        → Onward (butOf (endingByStep plan a arriving fsn (asks message))) a (managed plan arriving fsn point slc message a .after)
+        → Onward (butOf (endingByStep plan a (asks message))) a (managed plan arriving fsn point slc message a .after)
     unfolding managed asked endingByStep
     managed-onward (COO f) = carries-out (COO f)
     managed-onward (COA f) = carries-out (COA f)
@@ -157,11 +150,19 @@ module _ (plan : Plan) (a : Areas) (octets : List ℕ) (regular : RegularIn a oc
   came-onward : short (a .reports) ≡ false → (size : ℕ) (came : Came)
       → Onward (butOf (endingByMessage plan a arriving fsn came)) a (receivedBy plan arriving fsn size came a .after)
   unfolding endingByMessage receivedBy
-  came-onward wide size Malformed = taken-only plan a octets regular arriving fsn
-  came-onward wide size Foreign = taken-only plan a octets regular arriving fsn
-  came-onward wide size Delivered = taken-only plan a octets regular arriving fsn
+  came-onward wide size Malformed = onward-none 32 a
+  came-onward wide size Foreign = onward-none 32 a
+  came-onward wide size Delivered = onward-none 32 a
   came-onward wide size (Managed order) = managed-onward wide (order .point) (order .slc) (order .message)
-  came-onward wide size (Passed label) = passed-onward plan a octets regular arriving fsn label size
+  came-onward wide size (Passed label) = passed-onward plan a octets regular arriving label size
+
+  -- taken, or not
+  taken-onward : (but : ℕ) (o : Outcome) → length (o .after .links) ≡ 256 → Onward but a (o .after)
+      → Onward but a (takenBy arriving fsn o .after)
+  taken-onward but o long onward =
+      by-test (Onward but a) (isTaken (o .answer .reply)) (withTaken arriving fsn (o .after)) (o .after)
+      (λ e. onward-taken but a (o .after) long onward arriving fsn)
+      (λ e. onward)
 
   pub received-onward : (message : List ℕ)
       → Onward
@@ -172,10 +173,14 @@ module _ (plan : Plan) (a : Areas) (octets : List ℕ) (regular : RegularIn a oc
       (received plan arriving fsn message a .after)
   unfolding received
   received-onward message =
+      let became : Outcome = receivedBy plan arriving fsn (length message) (fromLink plan message) a in
       if-both-done (λ (e : Ending) (o : Outcome). Onward (butOf e) a (o .after)) (Receive.replyOf plan (a .links) arriving fsn (a .reports))
       (endingByMessage plan a arriving fsn (fromLink plan message))
       (noEnding a)
-      (receivedBy plan arriving fsn (length message) (fromLink plan message) a)
+      (takenBy arriving fsn became)
       (refused (Receive.replyOf plan (a .links) arriving fsn (a .reports)) a)
-      (λ done. came-onward (room-there plan a arriving fsn done) (length message) (fromLink plan message))
+      (λ done.
+      taken-onward (butOf (endingByMessage plan a arriving fsn (fromLink plan message))) became
+      (came-regular a octets regular plan arriving fsn message (fromLink plan message) .links-long)
+      (came-onward (room-there plan a arriving fsn done) (length message) (fromLink plan message)))
       (onward-none 32 a)

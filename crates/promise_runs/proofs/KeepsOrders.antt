@@ -12,7 +12,6 @@ use Rattle.area_links.specs.LinkRecords.{recordAt}
 use Rattle.replies.specs.Reply.{done}
 use Rattle.replies.specs.Areas.{Areas, Outcome, outcome}
 use Rattle.lookup.specs.Lookup.{linkNamed}
-use Rattle.numbers.specs.Taken.{withTaken, takenOnly}
 use Rattle.management_making.specs.declared.Draft.{Draft}
 use Rattle.management_making.specs.Make.{withMade}
 use Rattle.changeover_cuts.specs.declared.Cut.{Cut}
@@ -24,15 +23,10 @@ use Rattle.management_asking.specs.Ask.{lastReceived, emergencyOf, askCOO, askE
 use Rattle.management_requests.specs.Request.{askCBD, allows, askRST}
 use Rattle.management_orders.specs.Carry.{answerReply, withAnswer, endedBy, carried}
 use Rattle.promise_runs.proofs.Outcomes.{RegularIn, by-test, if-judged, unmet}
-use Rattle.promise_runs.proofs.KeepsNumbers.{taken-regular}
 use Rattle.promise_runs.proofs.KeepsMaking.{made-regular}
 use Rattle.promise_runs.proofs.KeepsEnding.{out-regular}
 
 module _ (octets : List ℕ) where
-  -- a message that is taken
-  pub with-taken-regular : (a : Areas) → RegularIn a octets → (arriving fsn : ℕ) → RegularIn (withTaken arriving fsn a) octets
-  with-taken-regular a regular arriving fsn = taken-regular (a .links) (a .spans) (a .rings) (a .rows) octets regular arriving fsn
-
   module _ (plan : Plan) (step : Step) where
     -- its answer
     with-answer-regular : (a : Areas) → RegularIn a octets → RegularIn (withAnswer plan step a) octets
@@ -53,17 +47,13 @@ module _ (octets : List ℕ) where
           (λ e. regular)
 
       -- a step that is carried out
-      pub carried-regular : (a : Areas) → RegularIn a octets → (arriving fsn : ℕ)
-          → RegularIn (carried plan arriving fsn step a .after) octets
+      pub carried-regular : (a : Areas) → RegularIn a octets → RegularIn (carried plan step a .after) octets
       unfolding carried
-      carried-regular a regular arriving fsn =
-          by-test (λ (o : Outcome). RegularIn (o .after) octets) (eqb (step .reply) 0) _ (takenOnly arriving fsn (step .reply) a)
-          (λ e.
+      carried-regular a regular =
+          if-judged octets (step .reply) _ a regular
+          (λ asks.
           if-judged octets (answerReply plan step a) _ a regular
-          (λ done.
-          ended-regular (withTaken arriving fsn (withAnswer plan step a))
-          (with-taken-regular (withAnswer plan step a) (with-answer-regular a regular) arriving fsn)))
-          (λ e. with-taken-regular a regular arriving fsn)
+          (λ done. ended-regular (withAnswer plan step a) (with-answer-regular a regular)))
 
 -- a step ends the changeover of a link that there is
 abbrev pub OfLink : Step → Type 0

@@ -14,20 +14,19 @@ use Rattle.plan.proofs.Split.{both-false}
 use Rattle.area_flags.specs.Flags.{flagAt}
 use Rattle.wire.specs.declared.header.Label.{Label}
 use Rattle.replies.specs.Reply.{plain}
-use Rattle.replies.specs.Areas.{Areas, Outcome, outcome, judged, refused, withMarks}
+use Rattle.replies.specs.Areas.{Areas, Outcome, outcome, judged, refused}
 use Rattle.route_choice.specs.Which.{none}
 use Rattle.route_ways.specs.Way.{forUsers}
 use Rattle.queue_heads.specs.Head.{both}
 use Rattle.queue_joining.specs.Queue.{userQueues, userRow}
-use Rattle.numbers.specs.Taken.{withTaken}
-use Rattle.management_making.specs.Make.{withMade, makesReply}
+use Rattle.management_making.specs.Make.{makesReply}
 use Rattle.queue_moving.specs.Move.{apart}
 use Rattle.constants.specs.Constants.{t6}
 use Rattle.discrimination.specs.declared.Came.{Came}
 use Rattle.discrimination.specs.declared.Came.the-variants.{Malformed, Foreign, Delivered, Managed, Passed}
 use Rattle.discrimination.specs.Discrimination.{fromHost}
 use Rattle.passing_passage.specs.Passage.{linkOf, unreachable, ringBy, ringOf, placeReply, queued, octetsQueued, prohibitedTo, tells}
-use Rattle.passing.specs.Pass.{marksTold, notReached, passed, octetsPassed}
+use Rattle.passing.specs.Pass.{notReached, passed, octetsPassed}
 use Rattle.passing_offering.specs.Host.{refuses, offered, fromHostBy, sent, octetsOffered, octetsBy, octetsSent}
 use Rattle.promise_runs.proofs.Carrying.{way-carries}
 use Rattle.promise_runs.proofs.Growing.{Goes, goes-free, Kept}
@@ -35,7 +34,6 @@ use Rattle.promise_runs.proofs.Queued.{user-kept}
 use Rattle.promise_runs.proofs.Keeping.{grew, octets-changed}
 use Rattle.promise_runs.proofs.Outcomes.{RegularIn, by-test, both-by-test, if-judged}
 use Rattle.promise_runs.proofs.KeepsMaking.{made-regular}
-use Rattle.promise_runs.proofs.KeepsOrders.{with-taken-regular}
 
 module _ (a : Areas) (octets : List ℕ) (regular : RegularIn a octets) (plan : Plan) where
   -- a message that has a way
@@ -84,30 +82,27 @@ module _ (a : Areas) (octets : List ℕ) (regular : RegularIn a octets) (plan : 
         (λ e. new)
 
   -- one that has none
-  not-reached-regular : (arriving fsn x : ℕ) → RegularIn (notReached plan arriving fsn x a .after) octets
+  not-reached-regular : (arriving x : ℕ) → RegularIn (notReached plan arriving x a .after) octets
   unfolding notReached
-  not-reached-regular arriving fsn x =
-      let told = withMarks (withMade plan (prohibitedTo plan arriving x) a) (marksTold plan a arriving x) in
-      by-test (λ (o : Outcome). RegularIn (o .after) octets) (tells plan (a .marks) x) _ (outcome (plain 9) (withTaken arriving fsn a))
+  not-reached-regular arriving x =
+      by-test (λ (o : Outcome). RegularIn (o .after) octets) (tells plan (a .marks) x) _ (outcome (plain 9) a)
       (λ e.
       if-judged octets (makesReply plan (prohibitedTo plan arriving x) a) _ a regular
-      (λ done. with-taken-regular octets told (made-regular a octets regular plan (prohibitedTo plan arriving x)) arriving fsn))
-      (λ e. with-taken-regular octets a regular arriving fsn)
+      (λ done. made-regular a octets regular plan (prohibitedTo plan arriving x)))
+      (λ e. regular)
 
   -- from a link
-  pub passed-regular : (arriving fsn : ℕ) (label : Label) (message : List ℕ)
-      → RegularIn (passed plan arriving fsn label (length message) a .after) (octetsPassed plan label a octets message)
+  pub passed-regular : (arriving : ℕ) (label : Label) (message : List ℕ)
+      → RegularIn (passed plan arriving label (length message) a .after) (octetsPassed plan label a octets message)
   unfolding passed octetsPassed
-  passed-regular arriving fsn label message =
+  passed-regular arriving label message =
       both-by-test (λ (o : Outcome) (w : List ℕ). RegularIn (o .after) w) (unreachable plan a label)
-      (notReached plan arriving fsn (label .dpc) a)
+      (notReached plan arriving (label .dpc) a)
       _
       octets
       (octetsQueued a octets message)
-      (λ e. not-reached-regular arriving fsn (label .dpc))
-      (λ e.
-      place-regular label message e _
-      (with-taken-regular (octetsQueued a octets message) (queued plan a label (length message)) (queued-regular label message e) arriving fsn))
+      (λ e. not-reached-regular arriving (label .dpc))
+      (λ e. place-regular label message e _ (queued-regular label message e))
 
   -- from the host
   offered-regular : (label : Label) (message : List ℕ)

@@ -7,9 +7,9 @@ use native.Mathlib.Omega.{arith}
 use Rattle.plan.specs.declared.data.Plan.{Plan}
 use Rattle.plan.specs.Find.{placeOf}
 use Rattle.area_flags.specs.Flags.{withFlag}
-use Rattle.replies.specs.Areas.{Areas, Outcome}
+use Rattle.replies.specs.Reply.{plain}
+use Rattle.replies.specs.Areas.{Areas, Outcome, outcome}
 use Rattle.queue_retiring.specs.Leave.{State, state}
-use Rattle.numbers.specs.Taken.{takenOnly}
 use Rattle.management_making.specs.Make.{makesReply}
 use Rattle.queue_moving.specs.Move.{apart}
 use Rattle.rerouting_releasing.specs.Release.{released}
@@ -22,18 +22,15 @@ use Rattle.promise_runs.proofs.Emptied.{kept-released}
 use Rattle.promise_runs.proofs.Keeping.{grew}
 use Rattle.promise_runs.proofs.Outcomes.{RegularIn, by-test, if-judged}
 use Rattle.promise_runs.proofs.KeepsMaking.{made-regular}
-use Rattle.promise_runs.proofs.KeepsOrders.{with-taken-regular}
 
 module _ (a : Areas) (octets : List ℕ) (regular : RegularIn a octets) (plan : Plan) where
   -- a TFP, or a TFA
-  pub transfer-regular : (arriving fsn point x : ℕ) (prohibits : Bool)
-      → RegularIn (transferred plan arriving fsn point x prohibits a .after) octets
+  pub transfer-regular : (point x : ℕ) (prohibits : Bool) → RegularIn (transferred plan point x prohibits a .after) octets
   unfolding transferred
-  transfer-regular arriving fsn point x prohibits =
-      let taken = with-taken-regular octets a regular arriving fsn in
-      by-test (λ (o : Outcome). RegularIn (o .after) octets) (counts plan (a .marks) point x prohibits) _ (takenOnly arriving fsn 11 a)
-      (λ e. taken)
-      (λ e. taken)
+  transfer-regular point x prohibits =
+      by-test (λ (o : Outcome). RegularIn (o .after) octets) (counts plan (a .marks) point x prohibits) _ (outcome (plain 11) a)
+      (λ e. regular)
+      (λ e. regular)
 
   -- T6 expires: the messages held apart for X move
   pub t6-regular : (x : ℕ) → RegularIn (expiredT6 plan a x .after) octets

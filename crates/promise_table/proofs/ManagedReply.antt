@@ -23,7 +23,7 @@ use Rattle.management_orders.specs.Carry.{answerReply, carried}
 use Rattle.changeback_waiting.specs.Wait.{answers, answeredBy}
 use Rattle.rerouting_marking.specs.Mark.{counts}
 use Rattle.rerouting.specs.Transfer.{transferred}
-use Rattle.management.specs.Managed.{asked, carriedOut, managed}
+use Rattle.managing.specs.Managed.{asked, stepAsked, managed}
 use Rattle.promise_table.specs.Received.{pathFor, answerNeeds, namesNothing}
 use Rattle.promise_table.proofs.Either.{either, of-either}
 use Rattle.promise_table.proofs.Judged.{judged-done}
@@ -41,7 +41,7 @@ module _ (plan : Plan) (links marks : List ℕ) (arriving fsn point slc : ℕ) w
   abbrev stateIs : ℕ → Bool
   stateIs n = eqb (recordAt links link .state) n
 
-  pub asked-plain : (message : Message) → Plain (asked plan links marks arriving fsn point slc message)
+  pub asked-plain : (message : Message) → Plain (stepAsked plan links marks arriving fsn point slc message)
   unfolding asked askCOO askCOA askECO askECA askCBD askRST orderStep ackStep
   asked-plain (COO f) = either Plain (ltb link 32) _ _ (either Plain (stateIs 0) _ _ refl refl) refl
   asked-plain (COA f) = either Plain (ltb link 32 && eqb (recordAt links link .timer) 2) _ _ refl refl
@@ -87,7 +87,7 @@ module _ (plan : Plan) (link fsn : ℕ) (a : Areas) where
   reply o = o .answer .reply
 
   step-reply : (step : Step) → Plain step
-      → reply (carried plan link fsn step a) ≡ first (rows (eqb (step .reply) 11) (answerNeeds plan a step) a)
+      → reply (carried plan step a) ≡ first (rows (eqb (step .reply) 11) (answerNeeds plan a step) a)
   unfolding carried
   step-reply step is =
       of-either reply (eqb (step .reply) 0) _ _
@@ -103,24 +103,24 @@ module _ (plan : Plan) (link fsn : ℕ) (a : Areas) where
 
   module _ (point slc : ℕ) where
     abbrev step : Message → Step
-    step message = asked plan (a .links) (a .marks) link fsn point slc message
+    step message = stepAsked plan (a .links) (a .marks) link fsn point slc message
 
     abbrev pub managedRows : Message → List Row
     managedRows message = rows (namesNothing plan a link fsn point slc message) (answerNeeds plan a (step message)) a
 
     by-step : (message : Message)
-        → reply (carriedOut plan link fsn point slc message a)
+        → reply (carried plan (stepAsked plan (a .links) (a .marks) link fsn point slc message) a)
         ≡ first (rows (eqb (step message .reply) 11) (answerNeeds plan a (step message)) a)
     by-step message = step-reply (step message) (asked-plain plan (a .links) (a .marks) link fsn point slc message)
 
     transfer-reply : (x : ℕ) (prohibits : Bool)
-        → reply (transferred plan link fsn point x prohibits a) ≡ first (rows (not (counts plan (a .marks) point x prohibits)) false a)
+        → reply (transferred plan point x prohibits a) ≡ first (rows (not (counts plan (a .marks) point x prohibits)) false a)
     unfolding transferred
     transfer-reply x prohibits =
         of-either reply (counts plan (a .marks) point x prohibits) _ _ refl refl ∙ unless (counts plan (a .marks) point x prohibits)
 
     answer-reply : (code : ℕ)
-        → reply (answeredBy plan link fsn point slc code a) ≡ first (rows (not (answers plan (a .links) point slc code)) false a)
+        → reply (answeredBy plan point slc code a) ≡ first (rows (not (answers plan (a .links) point slc code)) false a)
     unfolding answeredBy
     answer-reply code =
         of-either reply (answers plan (a .links) point slc code) _ _ refl refl ∙ unless (answers plan (a .links) point slc code)

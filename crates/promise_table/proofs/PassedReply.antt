@@ -43,7 +43,7 @@ in-order true true true full true spent = refl
 in-order true true true full false true = refl
 in-order true true true full false false = refl
 
-module _ (plan : Plan) (link fsn : ℕ) (label : Label) (size : ℕ) (a : Areas) where
+module _ (plan : Plan) (link : ℕ) (label : Label) (size : ℕ) (a : Areas) where
   abbrev due : Bool
   due = tells plan (a .marks) (label .dpc)
 
@@ -56,7 +56,7 @@ module _ (plan : Plan) (link fsn : ℕ) (label : Label) (size : ℕ) (a : Areas)
   abbrev asks : ℕ
   asks = makesReply plan (prohibitedTo plan link (label .dpc)) a
 
-  not-reached : reply (notReached plan link fsn (label .dpc) a)
+  not-reached : reply (notReached plan link (label .dpc) a)
       ≡ unreached due path (noManagementPlace (a .spans)) (noNumber (a .arrivals))
   unfolding notReached
   not-reached =
@@ -64,7 +64,7 @@ module _ (plan : Plan) (link fsn : ℕ) (label : Label) (size : ℕ) (a : Areas)
       (judged-reply asks _ a ∙ ap (λ (n : ℕ). ifDone n 9 n) (making plan (prohibitedTo plan link (label .dpc)) a))
       refl
 
-  pub passed-reply : reply (passed plan link fsn label size a)
+  pub passed-reply : reply (passed plan link label size a)
       ≡ first (rows (unreachable plan a label) due path (noUserPlace (a .spans)) (noManagementPlace (a .spans)) (noNumber (a .arrivals)))
   unfolding passed
   passed-reply =

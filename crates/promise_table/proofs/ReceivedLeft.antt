@@ -1,7 +1,7 @@
 -- A message from a link with a reply other than 0: what it leaves is what the table's column says of that reply. With 1, 2, 5, 6, 7, 8
 -- and 10 all is as it was, with 3, 4, 9 and 11 the message is taken, and with 9 there is a TFP perhaps. Assumes nothing.
 use Prim.Native.Nat.{ℕ}
-use mathlib.Core.Bool.{Bool, true, false, cond, not, _&&_, _||_, false≢true}
+use mathlib.Core.Bool.{Bool, true, false, cond, not, _&&_, _||_, true≢false, false≢true}
 use mathlib.Core.List.{List}
 use mathlib.Core.Path.{_≡_, refl, sym, ap, ap₂, _∙_}
 use lib.Dec.{eqb}
@@ -12,10 +12,11 @@ use Rattle.plan.specs.declared.data.Plan.{Plan}
 use Rattle.wire.specs.declared.header.Label.{Label}
 use Rattle.wire_messages.specs.declared.management.Message.{Message}
 use Rattle.wire_messages.specs.declared.management.Message.the-variants.{COO, COA, CBD, CBA, ECO, ECA, TFP, TFA, RST}
-use Rattle.replies.specs.Reply.{Row, first}
-use Rattle.replies.specs.Areas.{Areas, Outcome, refused, judged, withMarks}
+use Rattle.replies.specs.Reply.{Row, first, plain}
+use Rattle.replies.specs.Areas.{Areas, Outcome, outcome, refused, judged, withMarks}
 use Rattle.queue_joining.specs.Queue.{userOctets, managementReply}
-use Rattle.numbers.specs.Taken.{withTaken, takenOnly}
+use Rattle.numbers.specs.Numbers.{isTaken}
+use Rattle.numbers.specs.Taken.{withTaken, takenBy}
 use Rattle.management_making.specs.declared.Draft.{Draft}
 use Rattle.management_making.specs.Make.{Held, heldIn, withHeld, made, isMade, makesReply}
 use Rattle.management_making.specs.Make as Make
@@ -29,7 +30,7 @@ use Rattle.rerouting_marking.specs.Mark.{counts}
 use Rattle.rerouting.specs.Transfer.{transferred}
 use Rattle.passing_passage.specs.Passage.{unreachable, placeReply, octetsQueued, tells, prohibitedTo, withT8}
 use Rattle.passing.specs.Pass.{marksTold, notReached, passed, octetsPassed}
-use Rattle.management.specs.Managed.{carriedOut, managed}
+use Rattle.managing.specs.Managed.{asked, stepAsked, managed}
 use Rattle.receiving.specs.Receive.{replyOf, receivedBy, received, octetsBy, octetsReceived}
 use Rattle.node.specs.Memory.{Memory, memory}
 use Rattle.promise_table.specs.Received.{pathFor, makesTFP}
@@ -40,7 +41,7 @@ use Rattle.promise_table.proofs.GoesOut.{ended-done}
 use Rattle.promise_table.proofs.RouteReplies.{making}
 use Rattle.promise_table.proofs.HostReply.{places}
 use Rattle.promise_table.proofs.ManagedReply.{Plain, asked-plain, answer-first}
-use Rattle.promise_table.proofs.ReceivedReply.{before, reply-before}
+use Rattle.promise_table.proofs.ReceivedReply.{before, reply-before, later, kind-reply}
 use Rattle.promise_table.proofs.Kept.{refuses, Left, not-named}
 
 -- of two tests one holds, and it isn't the first
@@ -52,28 +53,48 @@ second false q e n = e
 abbrev calm : ℕ → Bool
 calm n = eqb n 0 || leavesAll n
 
+-- all as it was with a reply that leaves all, and else another memory by the reply
+module _ (m : Memory) (other : ℕ → Memory) where
+  abbrev leftOr : ℕ → Memory
+  leftOr reply = cond (leavesAll reply) m (other reply)
+
+  all-or : (reply : ℕ) → leavesAll reply ≡ true → leftOr reply ≡ m
+  all-or reply e = ap (λ (t : Bool). cond t m (other reply)) e
+
+  -- a refusal with a reply of rows that leave all
+  refused-or : (reply : ℕ) (rows : List Row) → reply ≡ first rows → allOf calm rows ≡ true
+      → Left refuses (m .out) leftOr (refused reply (m .areas)) (m .octets)
+  refused-or reply rows is all =
+      let named : calm reply ≡ true = ap calm is ∙ of-first calm refl rows all in
+      record { left = λ e. sym (all-or reply (second (eqb reply 0) (leavesAll reply) named e)) }
+
+-- "unchanged"
+pub all-left : (plan : Plan) (link fsn : ℕ) (m : Memory) (came : Came) (reply : ℕ) → leavesAll reply ≡ true
+    → leftBy plan link fsn came m reply ≡ m
+all-left plan link fsn m came reply e =
+    let a = m .areas in
+    all-or m (λ (n : ℕ). memory (withTaken link fsn (cond (eqb n 9) (withTFPOf plan link came a) a)) (m .octets) (m .out)) reply e
+
 module _ (plan : Plan) (link fsn : ℕ) (m : Memory) (came : Came) where
   abbrev a : Areas
   a = m .areas
 
-  -- an outcome is what the column says of its reply, with octets
+  -- the column before the message is taken
+  abbrev dropped : ℕ → Memory
+  dropped reply = memory (cond (eqb reply 9) (withTFPOf plan link came a) a) (m .octets) (m .out)
+
+  abbrev untaken : ℕ → Memory
+  untaken = leftOr m dropped
+
+  -- an outcome is what that says of its reply, with octets
   abbrev LeftBy : Outcome → List ℕ → Type 0
-  LeftBy = Left refuses (m .out) (leftBy plan link fsn came m)
+  LeftBy = Left refuses (m .out) untaken
 
   done-left : (o : Outcome) (octets : List ℕ) → o .answer .reply ≡ 0 → LeftBy o octets
-  done-left o octets is = not-named refuses (m .out) (leftBy plan link fsn came m) 0 refl o octets is
+  done-left o octets is = not-named refuses (m .out) untaken 0 refl o octets is
 
-  -- "unchanged"
-  pub all-left : (reply : ℕ) → leavesAll reply ≡ true → leftBy plan link fsn came m reply ≡ m
-  all-left reply e =
-      ap (λ (t : Bool). cond t m (memory (withTaken link fsn (cond (eqb reply 9) (withTFPOf plan link came a) a)) (m .octets) (m .out)))
-      e
-
-  -- a refusal with a reply of rows that leave all
   refused-left : (reply : ℕ) (rows : List Row) → reply ≡ first rows → allOf calm rows ≡ true → LeftBy (refused reply a) (m .octets)
-  refused-left reply rows is all =
-      let named : calm reply ≡ true = ap calm is ∙ of-first calm refl rows all in
-      record { left = λ e. sym (all-left reply (second (eqb reply 0) (leavesAll reply) named e)) }
+  refused-left reply rows is all = refused-or m dropped reply rows is all
 
   judged-left : (reply : ℕ) (rows : List Row) → reply ≡ first rows → allOf calm rows ≡ true
       → (does : Outcome) → LeftBy does (m .octets) → LeftBy (judged reply does a) (m .octets)
@@ -81,11 +102,11 @@ module _ (plan : Plan) (link fsn : ℕ) (m : Memory) (came : Came) where
       either (λ (o : Outcome). LeftBy o (m .octets)) (eqb reply 0) does (refused reply a) whole (refused-left reply rows is all)
 
   -- a step is carried out, or its reply is 11
-  nothing-left : (reply : ℕ) → eqb reply 11 ≡ not (eqb reply 0) → LeftBy (takenOnly link fsn reply a) (m .octets)
+  nothing-left : (reply : ℕ) → eqb reply 11 ≡ not (eqb reply 0) → LeftBy (outcome (plain reply) a) (m .octets)
   nothing-left reply is =
-      record { left = λ e. sym (ap (leftBy plan link fsn came m) (eqb-true reply 11 (is ∙ e))) }
+      record { left = λ e. sym (ap untaken (eqb-true reply 11 (is ∙ e))) }
 
-  step-left : (step : Step) → Plain step → LeftBy (carried plan link fsn step a) (m .octets)
+  step-left : (step : Step) → Plain step → LeftBy (carried plan step a) (m .octets)
   unfolding carried
   step-left step is =
       either (λ (o : Outcome). LeftBy o (m .octets)) (eqb (step .reply) 0) _ _
@@ -93,16 +114,16 @@ module _ (plan : Plan) (link fsn : ℕ) (m : Memory) (came : Came) where
       (nothing-left (step .reply) is)
 
   -- a message that asks for no answer: done, or 11
-  unless-left : (t : Bool) (does : Outcome) → does .answer .reply ≡ 0 → LeftBy (cond t does (takenOnly link fsn 11 a)) (m .octets)
+  unless-left : (t : Bool) (does : Outcome) → does .answer .reply ≡ 0 → LeftBy (cond t does (outcome (plain 11) a)) (m .octets)
   unless-left t does is =
       either (λ (o : Outcome). LeftBy o (m .octets)) t does _ (done-left does (m .octets) is) (record { left = λ e. refl })
 
   module _ (point slc : ℕ) where
-    by-step : (message : Message) → LeftBy (carriedOut plan link fsn point slc message a) (m .octets)
+    by-step : (message : Message) → LeftBy (carried plan (stepAsked plan (a .links) (a .marks) link fsn point slc message) a) (m .octets)
     by-step message = step-left _ (asked-plain plan (a .links) (a .marks) link fsn point slc message)
 
     managed-left : (message : Message) → LeftBy (managed plan link fsn point slc message a) (m .octets)
-    unfolding managed transferred answeredBy
+    unfolding managed asked transferred answeredBy
     managed-left (COO f) = by-step (COO f)
     managed-left (COA f) = by-step (COA f)
     managed-left (CBD code) = by-step (CBD code)
@@ -133,8 +154,8 @@ module _ (plan : Plan) (link fsn : ℕ) (m : Memory) (label : Label) where
   PassedLeft = LeftBy plan link fsn m (Passed label)
 
   -- what is held, and the flags, by whether a TFP is made
-  abbrev taken-with : Held → List ℕ → Memory
-  taken-with held marks = memory (withTaken link fsn (withMarks (withHeld areas held) marks)) (m .octets) (m .out)
+  abbrev told-with : Held → List ℕ → Memory
+  told-with held marks = memory (withMarks (withHeld areas held) marks) (m .octets) (m .out)
 
   abbrev path : Bool
   path = pathFor plan areas draft
@@ -158,18 +179,18 @@ module _ (plan : Plan) (link fsn : ℕ) (m : Memory) (label : Label) where
         ap (λ (t : Bool). cond t (withT8 plan (areas .marks) x) (areas .marks))
         (made-by-path path (managementReply (areas .spans) (areas .arrivals)) finds ∙ sym as-path)
 
-    told-left : taken-with told (marksTold plan areas link x) ≡ leftBy plan link fsn (Passed label) m 9
+    told-left : told-with told (marksTold plan areas link x) ≡ untaken plan link fsn m (Passed label) 9
     unfolding withTFPOf
-    told-left = ap₂ taken-with held-is marks-are
+    told-left = ap₂ told-with held-is marks-are
 
-  untold-left : tells plan (areas .marks) x ≡ false → taken-with (heldIn areas) (areas .marks) ≡ leftBy plan link fsn (Passed label) m 9
+  untold-left : tells plan (areas .marks) x ≡ false → told-with (heldIn areas) (areas .marks) ≡ untaken plan link fsn m (Passed label) 9
   unfolding withTFPOf
   untold-left e =
       sym
-      (ap (λ (t : Bool). taken-with (cond t told (heldIn areas)) (cond t (withT8 plan (areas .marks) x) (areas .marks)))
+      (ap (λ (t : Bool). told-with (cond t told (heldIn areas)) (cond t (withT8 plan (areas .marks) x) (areas .marks)))
       (ap (λ (t : Bool). t && path) e))
 
-  not-reached-left : PassedLeft (notReached plan link fsn x areas) (m .octets)
+  not-reached-left : PassedLeft (notReached plan link x areas) (m .octets)
   unfolding notReached
   not-reached-left =
       by-test (λ (o : Outcome). PassedLeft o (m .octets)) (tells plan (areas .marks) x) _ _
@@ -180,7 +201,7 @@ module _ (plan : Plan) (link fsn : ℕ) (m : Memory) (label : Label) where
       (λ not-due. record { left = λ e. untold-left not-due })
 
   module _ (message : List ℕ) where
-    passed-left : PassedLeft (passed plan link fsn label (length message) areas) (octetsPassed plan label areas (m .octets) message)
+    passed-left : PassedLeft (passed plan link label (length message) areas) (octetsPassed plan label areas (m .octets) message)
     unfolding passed octetsPassed octetsQueued userOctets
     passed-left =
         either-both PassedLeft (unreachable plan areas label) _ _ _ _ not-reached-left
@@ -199,11 +220,57 @@ module _ (plan : Plan) (link fsn : ℕ) (m : Memory) (message : List ℕ) where
   kind-left (Managed order) = managed-left plan link fsn m (Managed order) (order .point) (order .slc) (order .message)
   kind-left (Passed label) = passed-left plan link fsn m label message
 
+  -- of the replies that a message which is looked at can have, those are taken that don't leave all
+  agree : (p q : Bool) → cond p (not q) q ≡ true → q ≡ not p
+  agree true true e = absurd (false≢true e)
+  agree true false e = refl
+  agree false q e = e
+
+  taken-unless : (came : Came)
+      → let reply = receivedBy plan link fsn (length message) came (m .areas) .answer .reply in
+      isTaken reply ≡ not (leavesAll reply)
+  taken-unless came =
+      let reply = receivedBy plan link fsn (length message) came (m .areas) .answer .reply in
+      let agrees : ℕ → Bool = λ n. cond (leavesAll n) (not (isTaken n)) (isTaken n) in
+      agree (leavesAll reply) (isTaken reply)
+      (ap agrees (kind-reply plan link fsn (m .areas) (length message) came)
+      ∙ of-first agrees refl (later plan link fsn (m .areas) came) refl)
+
+  -- the message is taken
+  abbrev with-taken : Memory → Memory
+  with-taken k = memory (withTaken link fsn (k .areas)) (k .octets) (k .out)
+
+  by-leaving : (p q : Bool) → q ≡ not p → (b : Areas) (octets : List ℕ) (k : Memory) → memory b octets (m .out) ≡ cond p m k
+      → memory (cond q (withTaken link fsn b) b) octets (m .out) ≡ cond p m (with-taken k)
+  by-leaving true true e b octets k so = absurd (true≢false e)
+  by-leaving true false e b octets k so = so
+  by-leaving false true e b octets k so = ap with-taken so
+  by-leaving false false e b octets k so = absurd (false≢true e)
+
+  taken-left : (came : Came)
+      → Left refuses (m .out) (leftBy plan link fsn came m) (takenBy link fsn (receivedBy plan link fsn (length message) came (m .areas)))
+      (octetsBy plan came (m .areas) (m .octets) message)
+  taken-left came =
+      let o : Outcome = receivedBy plan link fsn (length message) came (m .areas) in
+      let reply = o .answer .reply in
+      record {
+        left =
+            λ e.
+            by-leaving (leavesAll reply) (isTaken reply) (taken-unless came) (o .after) (octetsBy plan came (m .areas) (m .octets) message)
+            (dropped plan link fsn m came reply)
+            (kind-left came .left e);
+      }
+
   abbrev reply : ℕ
   reply = replyOf plan (m .areas .links) link fsn (m .areas .reports)
 
-  pub received-left : LeftBy plan link fsn m (fromLink plan message) (received plan link fsn message (m .areas)) (octetsReceived plan link fsn message (m .areas) (m .octets))
+  pub received-left : Left refuses (m .out) (leftBy plan link fsn (fromLink plan message) m) (received plan link fsn message (m .areas)) (octetsReceived plan link fsn message (m .areas) (m .octets))
   unfolding received octetsReceived
   received-left =
-      either-both (LeftBy plan link fsn m (fromLink plan message)) (eqb reply 0) _ _ _ _ (kind-left (fromLink plan message))
-      (refused-left plan link fsn m (fromLink plan message) reply (before plan link fsn (m .areas)) (reply-before plan link fsn (m .areas)) refl)
+      let came = fromLink plan message in
+      let a = m .areas in
+      either-both (Left refuses (m .out) (leftBy plan link fsn came m)) (eqb reply 0) _ _ _ _ (taken-left came)
+      (refused-or m (λ (n : ℕ). memory (withTaken link fsn (cond (eqb n 9) (withTFPOf plan link came a) a)) (m .octets) (m .out)) reply
+      (before plan link fsn a)
+      (reply-before plan link fsn a)
+      refl)

@@ -28,7 +28,7 @@ module _ (plan : Plan) (link fsn : ℕ) (a : Areas) where
   unfolding replyOf
   reply-before = refl
 
-  abbrev later : Came → List Row
+  abbrev pub later : Came → List Row
   later came =
       row 3 (isMalformed came)
       ∷ row 4 (isForeign came)
@@ -40,13 +40,13 @@ module _ (plan : Plan) (link fsn : ℕ) (a : Areas) where
       ∷ []
 
   -- rows that can't apply are passed over by computation
-  kind-reply : (size : ℕ) (came : Came) → receivedBy plan link fsn size came a .answer .reply ≡ first (later came)
+  pub kind-reply : (size : ℕ) (came : Came) → receivedBy plan link fsn size came a .answer .reply ≡ first (later came)
   unfolding receivedBy isUnreachable isPointless needsUser needsManagement first
   kind-reply size Malformed = refl
   kind-reply size Foreign = refl
   kind-reply size Delivered = refl
   kind-reply size (Managed order) = managed-reply plan link fsn a (order .point) (order .slc) (order .message)
-  kind-reply size (Passed label) = passed-reply plan link fsn label size a
+  kind-reply size (Passed label) = passed-reply plan link label size a
 
   pub received-reply : (message : List ℕ)
       → received plan link fsn message a .answer .reply ≡ first (receivedRows plan link fsn (fromLink plan message) a)

@@ -13,7 +13,7 @@ use Rattle.wire.specs.declared.header.Label.{Label}
 use Rattle.replies.specs.Reply.{ifDone}
 use Rattle.replies.specs.Areas.{Areas}
 use Rattle.numbers.specs.Numbers.{taken}
-use Rattle.numbers.specs.Taken.{withTaken}
+use Rattle.numbers.specs.Taken.{withTaken, takenBy}
 use Rattle.discrimination.specs.declared.Came.{Came}
 use Rattle.discrimination.specs.declared.Came.the-variants.{Malformed, Foreign, Delivered, Managed, Passed}
 use Rattle.discrimination.specs.Discrimination.{fromLink}
@@ -22,7 +22,7 @@ use Rattle.receiving.specs.Receive.{replyOf, receivedBy, received}
 use Rattle.node.specs.declared.call.Event.the-variants.{Received}
 use Rattle.node.specs.Memory.{Memory, memory}
 use Rattle.node.specs.Call.{receives, callOf}
-use Rattle.promise_table.specs.Unchanged.{isTaken, withTFP, withTFPOf, leftBy}
+use Rattle.promise_table.specs.Unchanged.{isDropped, withTFP, withTFPOf, leftBy}
 use Rattle.promise_table.proofs.Either.{either, otherwise}
 use Rattle.replies_given.proofs.Numbers.{of-first}
 use Rattle.promise_table.proofs.Judged.{judged-reply}
@@ -35,8 +35,8 @@ one-of : {X : Type 0} (p q : Bool) → (p || q) ≡ true → (p ≡ true → X) 
 one-of true q e f g = f refl
 one-of false q e f g = g e
 
--- the four replies with which a message is taken
-four : (P : ℕ → Type 0) → P 3 → P 4 → P 9 → P 11 → (n : ℕ) → isTaken n ≡ true → P n
+-- the four replies with which a message is taken, and dropped
+four : (P : ℕ → Type 0) → P 3 → P 4 → P 9 → P 11 → (n : ℕ) → isDropped n ≡ true → P n
 four P at3 at4 at9 at11 n e =
     let at : (k : ℕ) → P k → eqb n k ≡ true → P n = λ k p is. subst P (sym (eqb-true n k is)) p in
     one-of (eqb n 3) (eqb n 4 || (eqb n 9 || eqb n 11)) e (at 3 at3)
@@ -64,7 +64,7 @@ module _ (plan : Plan) (link fsn : ℕ) (a : Areas) where
   unfolding received
   nine message e =
       let reply = replyOf plan (a .links) link fsn (a .reports) in
-      let does = receivedBy plan link fsn (length message) (fromLink plan message) a in
+      let does = takenBy link fsn (receivedBy plan link fsn (length message) (fromLink plan message) a) in
       let is : ifDone reply (does .answer .reply) reply ≡ 9 = sym (judged-reply reply does a) ∙ e in
       cases (eqb reply 0)
       (λ none.
@@ -101,10 +101,10 @@ module _ (plan : Plan) (link fsn : ℕ) (message : List ℕ) (m : Memory) where
   left-by other = received-left plan link fsn m message .left (ap not (ne-eqb reply 0 other))
 
   -- 3, 4, 9 and 11
-  pub taken-with : isTaken reply ≡ true
+  pub taken-with : isDropped reply ≡ true
       → after ≡ takenFrom (cond (eqb reply 9) (withTFPOf plan link (fromLink plan message) (m .areas)) (m .areas))
   taken-with e =
-      left-by (λ none. absurd (false≢true (ap isTaken (sym none) ∙ e)))
+      left-by (λ none. absurd (false≢true (ap isDropped (sym none) ∙ e)))
       ∙ four
       (λ (n : ℕ).
       leftBy plan link fsn (fromLink plan message) m n
@@ -112,7 +112,7 @@ module _ (plan : Plan) (link fsn : ℕ) (message : List ℕ) (m : Memory) where
       refl refl refl refl reply e
 
   -- 3, 4 and 11: "taken, dropped", or "taken, no effect"
-  pub taken-alone : isTaken reply ≡ true → (reply ≡ 9 → ⊥) → after ≡ takenFrom (m .areas)
+  pub taken-alone : isDropped reply ≡ true → (reply ≡ 9 → ⊥) → after ≡ takenFrom (m .areas)
   taken-alone e other =
       taken-with e
       ∙ ap takenFrom
@@ -127,14 +127,14 @@ module _ (plan : Plan) (link fsn : ℕ) (message : List ℕ) (m : Memory) where
         passed .0,
         (
           passed .1,
-          taken-with (ap isTaken e)
+          taken-with (ap isDropped e)
               ∙ ap (λ (n : ℕ). takenFrom (cond (eqb n 9) (withTFPOf plan link (fromLink plan message) (m .areas)) (m .areas))) e
               ∙ ap (λ (c : Came). takenFrom (withTFPOf plan link c (m .areas))) (passed .1),
         ),
       )
 
   -- with all four the links have the message taken, and reports, octets and output are as they were
-  pub taken-links : isTaken reply ≡ true
+  pub taken-links : isDropped reply ≡ true
       → (after .areas .links ≡ taken (m .areas .links) link fsn)
       × ((after .areas .reports ≡ m .areas .reports) × ((after .octets ≡ m .octets) × (after .out ≡ m .out)))
   taken-links e =

@@ -18,7 +18,7 @@ use Rattle.management_steps.specs.declared.Step.{Step}
 use Rattle.changeback_waiting.specs.Wait.{answers}
 use Rattle.rerouting_marking.specs.Mark.{counts}
 use Rattle.passing_passage.specs.Passage.{unreachable, tells, prohibitedTo}
-use Rattle.management.specs.Managed.{asked}
+use Rattle.managing.specs.Managed.{stepAsked}
 
 -- row 3: "message malformed" (R49, R209)
 abbrev pub isMalformed : Came → Bool
@@ -55,15 +55,15 @@ isUnreachable plan a link came =
 
 -- row 11: "management message that names nothing, or fits no state" (R56)
 unfoldable pub namesNothing : Plan → Areas → ℕ → ℕ → ℕ → ℕ → Message → Bool
-namesNothing plan a link fsn point slc (COO f) = eqb (asked plan (a .links) (a .marks) link fsn point slc (COO f) .reply) 11
-namesNothing plan a link fsn point slc (COA f) = eqb (asked plan (a .links) (a .marks) link fsn point slc (COA f) .reply) 11
-namesNothing plan a link fsn point slc (CBD code) = eqb (asked plan (a .links) (a .marks) link fsn point slc (CBD code) .reply) 11
+namesNothing plan a link fsn point slc (COO f) = eqb (stepAsked plan (a .links) (a .marks) link fsn point slc (COO f) .reply) 11
+namesNothing plan a link fsn point slc (COA f) = eqb (stepAsked plan (a .links) (a .marks) link fsn point slc (COA f) .reply) 11
+namesNothing plan a link fsn point slc (CBD code) = eqb (stepAsked plan (a .links) (a .marks) link fsn point slc (CBD code) .reply) 11
 namesNothing plan a link fsn point slc (CBA code) = not (answers plan (a .links) point slc code)
-namesNothing plan a link fsn point slc ECO = eqb (asked plan (a .links) (a .marks) link fsn point slc ECO .reply) 11
-namesNothing plan a link fsn point slc ECA = eqb (asked plan (a .links) (a .marks) link fsn point slc ECA .reply) 11
+namesNothing plan a link fsn point slc ECO = eqb (stepAsked plan (a .links) (a .marks) link fsn point slc ECO .reply) 11
+namesNothing plan a link fsn point slc ECA = eqb (stepAsked plan (a .links) (a .marks) link fsn point slc ECA .reply) 11
 namesNothing plan a link fsn point slc (TFP x) = not (counts plan (a .marks) point x true)
 namesNothing plan a link fsn point slc (TFA x) = not (counts plan (a .marks) point x false)
-namesNothing plan a link fsn point slc (RST x) = eqb (asked plan (a .links) (a .marks) link fsn point slc (RST x) .reply) 11
+namesNothing plan a link fsn point slc (RST x) = eqb (stepAsked plan (a .links) (a .marks) link fsn point slc (RST x) .reply) 11
 
 unfoldable pub isPointless : Plan → Areas → ℕ → ℕ → Came → Bool
 isPointless plan a link fsn came =
@@ -82,5 +82,5 @@ unfoldable pub needsManagement : Plan → Areas → ℕ → ℕ → Came → Boo
 needsManagement plan a link fsn came =
     ofManaged (ofPassed false (λ (label : Label). unreachable plan a label && makesTFP plan a link (label .dpc)) came)
     (λ (order : Order).
-    answerNeeds plan a (asked plan (a .links) (a .marks) link fsn (order .point) (order .slc) (order .message)))
+    answerNeeds plan a (stepAsked plan (a .links) (a .marks) link fsn (order .point) (order .slc) (order .message)))
     came

@@ -19,9 +19,9 @@ leavesAll reply =
     eqb reply 1
     || (eqb reply 2 || (eqb reply 5 || (eqb reply 6 || (eqb reply 7 || (eqb reply 8 || eqb reply 10)))))
 
--- 3, 4, 9, 11: from a link "taken" (R52)
-abbrev pub isTaken : ℕ → Bool
-isTaken reply = eqb reply 3 || (eqb reply 4 || (eqb reply 9 || eqb reply 11))
+-- 3, 4, 9, 11: from a link "taken, dropped", or "taken, no effect" (R52)
+abbrev pub isDropped : ℕ → Bool
+isDropped reply = eqb reply 3 || (eqb reply 4 || (eqb reply 9 || eqb reply 11))
 
 -- reply 9: "TFP perhaps" (R55); "with a TFP made, T8 starts" (R72). Where none is made, all stays as it was
 abbrev pub withTFP : Plan → ℕ → ℕ → Areas → Areas

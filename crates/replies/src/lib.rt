@@ -4,13 +4,14 @@ ghost use Rattle.replies.specs.Reply as Reply;
 
 #[repr(C)]
 pub struct Answer {
+    // How many octets are written to the output, and how many records to the report area. The wide numbers stand first, so that no hole is
+    // copied along between the fields.
+    pub octets: usize,
+    pub reports: usize,
     // The reply's number in the paper's table.
     pub reply: u8,
-    // Of a send: the number and how many octets leave.
+    // Of a send: the number that the message leaves with.
     pub fsn: u8,
-    pub octets: usize,
-    // How many records are written to the report area.
-    pub reports: usize,
     // Whether the message is delivered to the host.
     pub delivers: bool,
 }

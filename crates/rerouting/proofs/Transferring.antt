@@ -1,4 +1,4 @@
--- What a TFP or TFA leaves, from what the code does one after the other: only taken, or the flags changed and the access that changed
+-- What a TFP or TFA leaves, from what the code does one after the other: nothing, or the flags changed and the access that changed
 -- told. Assumes nothing.
 use mathlib.Core.Path.{_≡_, sym, ap, _∙_}
 use mathlib.Core.Bool.{Bool, true, false, cond}
@@ -6,8 +6,6 @@ use mathlib.Core.List.{List}
 use Prim.Native.Nat.{ℕ}
 use lib.ListN.{getD}
 use Rattle.plan.specs.declared.data.Plan.{Plan}
-use Rattle.numbers.specs.Numbers.{taken}
-use Rattle.numbers.specs.Taken.{takenOnly}
 use Rattle.replies.specs.declared.Answer.{Answer}
 use Rattle.replies.specs.Reply.{plain, done}
 use Rattle.replies.specs.Areas.{Areas, areas, Outcome, outcome, Leaves}
@@ -19,38 +17,26 @@ use Rattle.route_access.proofs.Same.{told-same}
 use Rattle.rerouting_marking.specs.Mark.{counts, marksAfter}
 use Rattle.rerouting.specs.Transfer.{accessTold, transferred}
 
-module _ (plan : Plan) (arriving fsn point x : ℕ) (prohibits : Bool) (a : Areas) (effect : Bool)
-    (counted : effect ≡ counts plan (a .marks) point x prohibits) (links : List ℕ)
-    (moved : links ≡ taken (a .links) arriving fsn) where
+module _ (plan : Plan) (point x : ℕ) (prohibits : Bool) (a : Areas) (effect : Bool)
+    (counted : effect ≡ counts plan (a .marks) point x prohibits) where
   abbrev marks-then : List ℕ
   marks-then = marksAfter plan (a .links) (a .marks) point x prohibits
 
   -- the flags and the reports that it leaves where it counts
-  abbrev with : List ℕ → List ℕ → Log → Outcome
-  with l m told = outcome (done (told .count)) (areas l m (a .spans) (a .rings) (a .rows) (a .arrivals) (told .area))
+  abbrev with : List ℕ → Log → Outcome
+  with m told = outcome (done (told .count)) (areas (a .links) m (a .spans) (a .rings) (a .rows) (a .arrivals) (told .area))
 
   transfer-if : (said : Bool) → effect ≡ said
-      → cond said (with (taken (a .links) arriving fsn) marks-then (accessTold plan a marks-then)) (takenOnly arriving fsn 11 a)
-      ≡ transferred plan arriving fsn point x prohibits a
+      → cond said (with marks-then (accessTold plan a marks-then)) (outcome (plain 11) a) ≡ transferred plan point x prohibits a
   unfolding transferred
   transfer-if said e =
-      ap
-      (λ (t : Bool).
-      cond t (with (taken (a .links) arriving fsn) marks-then (accessTold plan a marks-then)) (takenOnly arriving fsn 11 a))
-      (sym e ∙ counted)
+      ap (λ (t : Bool). cond t (with marks-then (accessTold plan a marks-then)) (outcome (plain 11) a)) (sym e ∙ counted)
 
-  -- taken, and of no effect
+  -- of no effect
   pub no-effect : effect ≡ false → (answer : Answer) → answer ≡ plain 11
-      → Leaves (transferred plan arriving fsn point x prohibits a) answer
-      (areas links (a .marks) (a .spans) (a .rings) (a .rows) (a .arrivals) (a .reports))
+      → Leaves (transferred plan point x prohibits a) answer a
   no-effect e answer r =
-      leaves (transferred plan arriving fsn point x prohibits a) answer
-      (areas links (a .marks) (a .spans) (a .rings) (a .rows) (a .arrivals) (a .reports))
-      (ap (λ (n : Answer). outcome n (areas links (a .marks) (a .spans) (a .rings) (a .rows) (a .arrivals) (a .reports))) r
-      ∙ ap
-      (λ (l : List ℕ). outcome (plain 11) (areas l (a .marks) (a .spans) (a .rings) (a .rows) (a .arrivals) (a .reports)))
-      moved
-      ∙ transfer-if false e)
+      leaves (transferred plan point x prohibits a) answer a (ap (λ (n : Answer). outcome n a) r ∙ transfer-if false e)
 
   -- the flags change, and the access that changed is told against what was noted before
   module _ (e : effect ≡ true) (table : List Bool) (noted : table ≡ accessesOf plan (a .links) (a .marks)) (marks : List ℕ)
@@ -67,14 +53,13 @@ module _ (plan : Plan) (arriving fsn point x : ℕ) (prohibits : Bool) (a : Area
 
     pub takes-effect : (count : ℕ) (reports : List ℕ) → (count ≡ told-now .count) × (reports ≡ told-now .area) → (answer : Answer)
         → answer ≡ done count
-        → Leaves (transferred plan arriving fsn point x prohibits a) answer
-        (areas links marks (a .spans) (a .rings) (a .rows) (a .arrivals) reports)
+        → Leaves (transferred plan point x prohibits a) answer
+        (areas (a .links) marks (a .spans) (a .rings) (a .rows) (a .arrivals) reports)
     takes-effect count reports told answer r =
         let all : log reports count ≡ told-now = simp (told .0, told .1) in
-        leaves (transferred plan arriving fsn point x prohibits a) answer
-        (areas links marks (a .spans) (a .rings) (a .rows) (a .arrivals) reports)
-        (ap (λ (n : Answer). outcome n (areas links marks (a .spans) (a .rings) (a .rows) (a .arrivals) reports)) r
-        ∙ ap (λ (t : Log). with links marks t) (all ∙ told-is)
-        ∙ ap (λ (l : List ℕ). with l marks (accessTold plan a marks-then)) moved
-        ∙ ap (λ (m : List ℕ). with (taken (a .links) arriving fsn) m (accessTold plan a marks-then)) changed
+        leaves (transferred plan point x prohibits a) answer
+        (areas (a .links) marks (a .spans) (a .rings) (a .rows) (a .arrivals) reports)
+        (ap (λ (n : Answer). outcome n (areas (a .links) marks (a .spans) (a .rings) (a .rows) (a .arrivals) reports)) r
+        ∙ ap (λ (t : Log). with marks t) (all ∙ told-is)
+        ∙ ap (λ (m : List ℕ). with m (accessTold plan a marks-then)) changed
         ∙ transfer-if true e)

@@ -1,11 +1,9 @@
--- What a TFP or TFA leaves: taken, with the mark set or cleared and the access that changed told where it counts.
+-- What a TFP or TFA leaves: the mark set or cleared and the access that changed told where it counts.
 use Prim.Native.Nat.{ℕ}
 use mathlib.Core.Bool.{Bool, cond}
 use mathlib.Core.List.{List}
 use Rattle.plan.specs.declared.data.Plan.{Plan}
-use Rattle.numbers.specs.Numbers.{taken}
-use Rattle.numbers.specs.Taken.{takenOnly}
-use Rattle.replies.specs.Reply.{done}
+use Rattle.replies.specs.Reply.{plain, done}
 use Rattle.replies.specs.Areas.{Areas, areas, Outcome, outcome}
 use Rattle.reports.specs.Report.{Log, log}
 use Rattle.route_access.specs.Change.{isAccessible, changesTold}
@@ -16,12 +14,12 @@ unfoldable pub accessTold : Plan → Areas → List ℕ → Log
 accessTold plan a marks =
     changesTold plan (isAccessible plan (a .links) (a .marks)) (isAccessible plan (a .links) marks) (log (a .reports) 0)
 
--- a TFP, or a TFA, about X that came over a link with a number (R153)
-unfoldable pub transferred : Plan → ℕ → ℕ → ℕ → ℕ → Bool → Areas → Outcome
-transferred plan arriving fsn point x prohibits a =
+-- a TFP, or a TFA, about X from a point (R153)
+unfoldable pub transferred : Plan → ℕ → ℕ → Bool → Areas → Outcome
+transferred plan point x prohibits a =
     let marks = marksAfter plan (a .links) (a .marks) point x prohibits in
     let told = accessTold plan a marks in
     cond (counts plan (a .marks) point x prohibits)
     (outcome (done (told .count))
-    (areas (taken (a .links) arriving fsn) marks (a .spans) (a .rings) (a .rows) (a .arrivals) (told .area)))
-    (takenOnly arriving fsn 11 a)
+    (areas (a .links) marks (a .spans) (a .rings) (a .rows) (a .arrivals) (told .area)))
+    (outcome (plain 11) a)

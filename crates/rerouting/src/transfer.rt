@@ -1,5 +1,4 @@
-// TFP and TFA carried out: the message is taken, a route's mark set or cleared, and the access that changed is told.
-use numbers::take_message;
+// TFP and TFA carried out: a route's mark is set or cleared, and the access that changed is told.
 use replies::Answer;
 use replies::done;
 use replies::plain;
@@ -12,32 +11,28 @@ ghost use mathlib.Core.Path.{_≡_};
 ghost use Rattle.replies.specs.Areas.{Leaves, before, after};
 ghost use Rattle.rerouting.specs.Transfer as Transfer;
 
-// A TFP, or a TFA, about X came over a link with a number.
+// A TFP, or a TFA, about X came from a point.
 pub fn transfer(
     plan: &[u16; 1024],
-    links: &mut [u32; 256],
+    links: &[u32; 256],
     marks: &mut [u32; 512],
     spans: &[u16; 70],
     rings: &[u8; 8960],
     rows: &[u64; 2048],
     arrivals: &[u64; 1],
-    arriving: u8,
-    fsn: u8,
     point: u16,
     x: u16,
     prohibits: bool,
     reports: &mut [u64],
 ) -> Answer
-    ensures { λ r. ⌜ Leaves (Transfer.transferred (planOf plan) arriving fsn point x prohibits (before links marks spans rings rows arrivals reports)) r
+    ensures { λ r. ⌜ Leaves (Transfer.transferred (planOf plan) point x prohibits (before links marks spans rings rows arrivals reports)) r
         (after links marks spans rings rows arrivals reports) ⌝ }
 {
     if !counts(plan, marks, point, x, prohibits) {
-        take_message(links, arriving, fsn);
         return plain(11);
     }
     let before = accesses(plan, links, marks);
     mark(plan, links, marks, point, x, prohibits);
     let told = report_changes(plan, links, marks, before, reports, 0);
-    take_message(links, arriving, fsn);
     done(told)
 }

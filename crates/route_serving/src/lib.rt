@@ -1,6 +1,8 @@
 // Which links serve and which routes are marked, read from the lent areas: eight words for each link, the first its state, and
 // eight for each destination, the first four the marks of its routes.
 use constants::LINKS;
+use constants::OPEN_WORD;
+use constants::OUT_WORD;
 ghost use mathlib.Core.Path.{_≡_};
 ghost use Rattle.route_serving.specs.State as State;
 
@@ -30,7 +32,11 @@ pub fn serves(links: &[u32; 256], need: Need, link: u8) -> bool
         return false;
     }
     let state = state(links, link);
-    if need.open { state == 2 } else { 0 < state }
+    if need.open {
+        state == OPEN_WORD
+    } else {
+        OUT_WORD < state
+    }
 }
 
 pub fn marked(marks: &[u32; 512], destination: usize, rank: usize) -> bool

@@ -1,4 +1,4 @@
--- `changeback_waiting::answer_by` meets its contract: a CBA that doesn't count is taken, and one that does answers the link's CBD.
+-- `changeback_waiting::answer_by` meets its contract: a CBA that doesn't count changes nothing, and one that does answers the link's CBD.
 -- Assumes nothing.
 use borrow.Author.Needs.{needs}
 use borrow.Author.Tests.{not-true, not-false}
@@ -12,20 +12,16 @@ use Rattle.changeback_waiting.proofs.answer_by.Tie as tie
 answers-requires : tie.Need-answers-requires
 answers-requires c κs = search needs
 
-take-message-requires : tie.Need-take-message-requires
-take-message-requires c κs = search needs
-
 plain-requires : tie.Need-plain-requires
 plain-requires c κs = search needs
 
 returns : tie.Need-returns
 returns c =
     let test = c .before in
-    let take = test .before .take-message in
-    let said = test .before .before .before .answers in
-    let a = test .before .before .before .before .before .args in
-    not-counted (planAt (a .plan .now)) (a .arriving) (a .fsn) (a .point) (a .slc) (a .code) (areas (a .links .now) [] [] [] [] [] [])
-    (said .result) (said .ensures) (take .last .0) (take .ensures) (not-true (said .result) (test .if1 .taken))
+    let said = test .before .answers in
+    let a = test .before .before .before .args in
+    not-counted (planAt (a .plan .now)) (a .point) (a .slc) (a .code) (areas (a .links .now) [] [] [] [] [] [])
+    (said .result) (said .ensures) (not-true (said .result) (test .if1 .taken))
     (c .plain .result) (c .plain .ensures)
 
 answer-wait-requires : tie.Need-answer-wait-requires
@@ -38,11 +34,10 @@ returns-2 : tie.Need-returns-2
 returns-2 c =
     let opens = c .before .answer-wait in
     let test = c .before .before .before in
-    let take = test .before .take-message in
-    let said = test .before .before .before .answers in
-    let a = test .before .before .before .before .before .args in
-    counted (planAt (a .plan .now)) (a .arriving) (a .fsn) (a .point) (a .slc) (a .code) (areas (a .links .now) [] [] [] [] [] [])
-    (said .result) (said .ensures) (take .last .0) (take .ensures) (not-false (said .result) (test .if1 .left))
+    let said = test .before .answers in
+    let a = test .before .before .before .args in
+    counted (planAt (a .plan .now)) (a .point) (a .slc) (a .code) (areas (a .links .now) [] [] [] [] [] [])
+    (said .result) (said .ensures) (not-false (said .result) (test .if1 .left))
     (opens .last .1 .0) (opens .ensures) (c .done .result) (c .done .ensures)
 
 pub answer-by-spec : {M : Type 1} → statement M
@@ -50,7 +45,6 @@ answer-by-spec =
     tie.close
     (tie.spec
     answers-requires
-    take-message-requires
     plain-requires
     returns
     answer-wait-requires

@@ -33,16 +33,16 @@ before c =
 returns : tie.Need-returns
 returns c =
     let r = c .not-reached in
-    let at-if = c .before .before .before .before .before .before .before in
+    let at-if = c .before .before .before .before .before .before in
     let to = at-if .before .before .directed in
     let need = at-if .before .before .before .for-users in
-    let start = at-if .before .before .before .before .before .before .before .before in
+    let start = at-if .before .before .before .before .before .before .before in
     let a = start .args in
     let l = r .last .1 in
-    passed-nowhere (planAt (a .plan .now)) (a .arriving) (a .fsn) (a .label) (before start) (a .octets .now) (a .message .now)
+    passed-nowhere (planAt (a .plan .now)) (a .arriving) (a .label) (before start) (a .octets .now) (a .message .now)
     (no-way (planAt (a .plan .now)) (before start) (a .label) (need .result) (need .ensures) (to .result .link) (ap the-link (to .ensures)) (at-if .if1 .taken))
     (r .result)
-    (areas (l .0) (l .1 .0) (l .1 .1 .0) (l .1 .1 .1 .0) (l .1 .1 .1 .1 .0) (l .1 .1 .1 .1 .1 .0) (a .reports .now))
+    (areas (a .links .now) (l .1 .0) (l .1 .1 .0) (l .1 .1 .1 .0) (l .1 .1 .1 .1 .0) (l .1 .1 .1 .1 .1 .0) (a .reports .now))
     (r .ensures)
 
 ring-of-requires : tie.Need-ring-of-requires
@@ -53,7 +53,7 @@ queue-user-requires c κs = search needs
 
 -- where the call started
 abbrev start-of : tie.After-queue-user → tie.Start
-start-of c = c .before .before .before .before .before .before .before .before .before .before .before .before .before .before .before .before
+start-of c = c .before .before .before .before .before .before .before .before .before .before .before .before .before .before .before
 
 -- the areas after a place was asked for
 abbrev after : tie.After-queue-user → Areas
@@ -89,26 +89,22 @@ returns-2 c =
     let at-place = c .before .before in
     let start = start-of at-place in
     let a = start .args in
-    passed-lacking (planAt (a .plan .now)) (a .arriving) (a .fsn) (a .label) (before start) (a .octets .now) (a .message .now)
+    passed-lacking (planAt (a .plan .now)) (a .arriving) (a .label) (before start) (a .octets .now) (a .message .now)
     (at-place .queue-user .result) (after at-place) (at-place .queue-user .last .1 .1 .1 .0) (place-asked at-place) (c .before .if2 .taken)
     (c .plain .result) (c .plain .ensures)
-
-take-message-requires : tie.Need-take-message-requires
-take-message-requires c κs = search needs
 
 done-requires : tie.Need-done-requires
 done-requires c κs = search needs
 
 returns-3 : tie.Need-returns-3
 returns-3 c =
-    let take = c .before .take-message in
-    let at-if = c .before .before .before in
+    let at-if = c .before in
     let at-place = at-if .before in
     let start = start-of at-place in
     let a = start .args in
-    passed-on (planAt (a .plan .now)) (a .arriving) (a .fsn) (a .label) (before start) (a .octets .now) (a .message .now)
+    passed-on (planAt (a .plan .now)) (a .arriving) (a .label) (before start) (a .octets .now) (a .message .now)
     (at-place .queue-user .result) (after at-place) (at-place .queue-user .last .1 .1 .1 .0) (place-asked at-place) (at-if .if2 .left)
-    (take .last .0) (take .ensures) (c .done .result) (c .done .ensures)
+    (c .done .result) (c .done .ensures)
 
 pub pass-on-spec : {M : Type 1} → statement M
 pass-on-spec =
@@ -122,6 +118,5 @@ pass-on-spec =
     queue-user-requires
     plain-requires
     returns-2
-    take-message-requires
     done-requires
     returns-3)

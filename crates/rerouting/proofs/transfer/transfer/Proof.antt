@@ -1,4 +1,4 @@
--- `rerouting::transfer::transfer` meets its contract: it is only taken, or the flags change and the access that changed is told.
+-- `rerouting::transfer::transfer` meets its contract: it has no effect, or the flags change and the access that changed is told.
 -- Assumes nothing.
 use borrow.Author.Needs.{needs}
 use borrow.Author.Tests.{not-true, not-false}
@@ -11,21 +11,17 @@ use Rattle.rerouting.proofs.transfer.transfer.Tie as tie
 counts-requires : tie.Need-counts-requires
 counts-requires c κs = search needs
 
-take-message-requires : tie.Need-take-message-requires
-take-message-requires c κs = search needs
-
 plain-requires : tie.Need-plain-requires
 plain-requires c κs = search needs
 
 returns : tie.Need-returns
 returns c =
-    let take = c .before .take-message in
-    let test = c .before .before .before in
+    let test = c .before in
     let counts = test .before .counts in
     let a = test .before .before .before .before .args in
-    no-effect (planAt (a .plan .now)) (a .arriving) (a .fsn) (a .point) (a .x) (a .prohibits)
+    no-effect (planAt (a .plan .now)) (a .point) (a .x) (a .prohibits)
     (areas (a .links .now) (a .marks .now) (a .spans .now) (a .rings .now) (a .rows .now) (a .arrivals .now) (a .reports .now))
-    (counts .result) (counts .ensures) (take .last .0) (take .ensures) (not-true (counts .result) (test .if1 .taken))
+    (counts .result) (counts .ensures) (not-true (counts .result) (test .if1 .taken))
     (c .plain .result) (c .plain .ensures)
 
 accesses-requires : tie.Need-accesses-requires
@@ -37,9 +33,6 @@ mark-requires c κs = search needs
 report-changes-requires : tie.Need-report-changes-requires
 report-changes-requires c κs = search needs
 
-take-message-requires-2 : tie.Need-take-message-requires-2
-take-message-requires-2 c κs = search needs
-
 done-requires : tie.Need-done-requires
 done-requires c κs = search needs
 
@@ -48,19 +41,18 @@ same-length c = search needs
 
 returns-2 : tie.Need-returns-2
 returns-2 c =
-    let take = c .before .take-message2 in
-    let at-report = c .before .before .before .before .before in
+    let at-report = c .before .before .before in
     let told = at-report .report-changes in
-    let at-mark = at-report .before .before .before .before in
+    let at-mark = at-report .before .before .before in
     let mark = at-mark .mark in
-    let at-table = at-mark .before .before .before in
+    let at-table = at-mark .before .before in
     let table = at-table .accesses in
-    let test = at-table .before .before .before in
+    let test = at-table .before .before in
     let counts = test .before .counts in
     let a = test .before .before .before .before .args in
-    takes-effect (planAt (a .plan .now)) (a .arriving) (a .fsn) (a .point) (a .x) (a .prohibits)
+    takes-effect (planAt (a .plan .now)) (a .point) (a .x) (a .prohibits)
     (areas (a .links .now) (a .marks .now) (a .spans .now) (a .rings .now) (a .rows .now) (a .arrivals .now) (a .reports .now))
-    (counts .result) (counts .ensures) (take .last .0) (take .ensures) (not-false (counts .result) (test .if1 .left))
+    (counts .result) (counts .ensures) (not-false (counts .result) (test .if1 .left))
     (table .result) (table .ensures) (mark .last .1 .1 .0) (mark .ensures) (told .result) (told .last .1 .1 .1 .1 .0)
     (told .ensures) (c .done .result) (c .done .ensures)
 
@@ -69,13 +61,11 @@ transfer-spec =
     tie.close
     (tie.spec
     counts-requires
-    take-message-requires
     plain-requires
     returns
     accesses-requires
     mark-requires
     report-changes-requires
-    take-message-requires-2
     done-requires
     same-length
     returns-2)

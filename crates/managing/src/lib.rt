@@ -9,16 +9,31 @@ use management_orders::carry_out;
 use management_requests::ask_cbd;
 use management_requests::ask_rst;
 use management_steps::Step;
-use management_steps::nothing;
 use replies::Answer;
 use rerouting::transfer::transfer;
 use wire_messages::management::Message;
 ghost use Rattle.plan_words.specs.Words.{planOf};
 ghost use mathlib.Core.Path.{_≡_};
 ghost use Rattle.replies.specs.Areas.{old, Leaves, before, after};
-ghost use Rattle.management.specs.Managed as Managed;
+ghost use Rattle.managing.specs.Managed as Managed;
 
-// What a message asks that is answered or ends a changeover.
+// That a destination can't be reached by the sender of a TFP, or can again by that of a TFA.
+pub struct Prohibition {
+    pub x: u16,
+    pub prohibits: bool,
+}
+
+// What a message does.
+pub enum Effect {
+    // It is answered, or ends a changeover.
+    Carries(Step),
+    // A CBA, with its code.
+    Answers(u8),
+    // A TFP, or a TFA.
+    Transfers(Prohibition),
+}
+
+// What a message does, by what it is.
 fn ask(
     plan: &[u16; 1024],
     links: &[u32; 256],
@@ -26,22 +41,28 @@ fn ask(
     arriving: u8,
     fsn: u8,
     order: Order,
-) -> Step
+) -> Effect
     ensures { λ r. ⌜ r ≡ Managed.asked (planOf plan) (old links) (old marks) arriving fsn (order .point) (order .slc) (order .message) ⌝ }
 {
     let point = order.point;
     let slc = order.slc;
     let message = order.message;
     match message {
-        Message::COO(f) => ask_coo(plan, links, arriving, fsn, point, slc, f),
-        Message::COA(f) => ask_coa(plan, links, point, slc, f),
-        Message::ECO => ask_eco(plan, links, point, slc),
-        Message::ECA => ask_eca(plan, links, point, slc),
-        Message::CBD(code) => ask_cbd(plan, point, slc, code),
-        Message::RST(x) => ask_rst(plan, links, marks, point, x),
-        Message::CBA(_) => nothing(),
-        Message::TFP(_) => nothing(),
-        Message::TFA(_) => nothing(),
+        Message::COO(f) => Effect::Carries(ask_coo(plan, links, arriving, fsn, point, slc, f)),
+        Message::COA(f) => Effect::Carries(ask_coa(plan, links, point, slc, f)),
+        Message::ECO => Effect::Carries(ask_eco(plan, links, point, slc)),
+        Message::ECA => Effect::Carries(ask_eca(plan, links, point, slc)),
+        Message::CBD(code) => Effect::Carries(ask_cbd(plan, point, slc, code)),
+        Message::RST(x) => Effect::Carries(ask_rst(plan, links, marks, point, x)),
+        Message::CBA(code) => Effect::Answers(code),
+        Message::TFP(x) => Effect::Transfers(Prohibition {
+            x: x,
+            prohibits: true,
+        }),
+        Message::TFA(x) => Effect::Transfers(Prohibition {
+            x: x,
+            prohibits: false,
+        }),
     }
 }
 
@@ -63,10 +84,8 @@ pub fn manage(
         (Managed.managed (planOf plan) arriving fsn (order .point) (order .slc) (order .message) (before links marks spans rings rows arrivals reports)) r
         (after links marks spans rings rows arrivals reports) ⌝ }
 {
-    let message = order.message;
-    match message {
-        Message::CBA(code) => answer_by(plan, links, arriving, fsn, order.point, order.slc, code),
-        Message::TFP(x) => transfer(
+    match ask(plan, links, marks, arriving, fsn, order) {
+        Effect::Carries(step) => carry_out(
             plan,
             links,
             marks,
@@ -74,14 +93,11 @@ pub fn manage(
             rings,
             rows,
             arrivals,
-            arriving,
-            fsn,
-            order.point,
-            x,
-            true,
+            step,
             reports,
         ),
-        Message::TFA(x) => transfer(
+        Effect::Answers(code) => answer_by(plan, links, order.point, order.slc, code),
+        Effect::Transfers(about) => transfer(
             plan,
             links,
             marks,
@@ -89,28 +105,10 @@ pub fn manage(
             rings,
             rows,
             arrivals,
-            arriving,
-            fsn,
             order.point,
-            x,
-            false,
+            about.x,
+            about.prohibits,
             reports,
         ),
-        _ => {
-            let step = ask(plan, links, marks, arriving, fsn, order);
-            carry_out(
-                plan,
-                links,
-                marks,
-                spans,
-                rings,
-                rows,
-                arrivals,
-                arriving,
-                fsn,
-                step,
-                reports,
-            )
-        }
     }
 }
