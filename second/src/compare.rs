@@ -24,7 +24,7 @@ pub fn compare(record: &[u8], ours: &[u8], theirs: &[u8]) -> Option<String> {
 }
 
 /// With their LFs, so that a last line without one differs from one with it.
-fn lines(text: &[u8]) -> Vec<&[u8]> {
+pub(crate) fn lines(text: &[u8]) -> Vec<&[u8]> {
     text.split_inclusive(|octet| *octet == b'\n').collect()
 }
 
@@ -80,7 +80,7 @@ fn shortened(lines: &[&[u8]], rest: &str) -> Vec<String> {
 }
 
 /// A line without its LF; octets that can't be seen are spelled out.
-fn shown(line: &[u8]) -> String {
+pub(crate) fn shown(line: &[u8]) -> String {
     let (body, end) = match line.strip_suffix(b"\n") {
         Some(body) => (body, ""),
         None => (line, " (without LF)"),

@@ -2,11 +2,9 @@
 
 use std::collections::BTreeMap;
 
-use crate::configuration;
-use crate::point::{Call, Link, LinkState, Message, Outcome, Output, Reply, TransferPoint};
+use crate::point::{Call, Link, LinkState, Message, Output, Reply};
 use crate::point::{HIGHEST_FSN, MANAGEMENT_PLACES, USER_PLACES, WINDOW};
-use crate::record;
-use crate::replay::Run;
+use crate::run::{self, Step};
 use crate::wire::{self, Label, Management};
 
 pub const CORNERS: [&str; 67] = [
@@ -92,17 +90,11 @@ pub type Counts = BTreeMap<&'static str, usize>;
 /// Counts of a run; a refused configuration or a line that can't be read ends it, as in a replay.
 pub fn corners(configuration: &[u8], record: &[u8]) -> Counts {
     let mut counts: Counts = CORNERS.iter().map(|name| (*name, 0)).collect();
-    let Ok(point) = configuration::read(configuration) else { return counts };
-    let mut run = Run::new(point);
-    for line in record.split_inclusive(|octet| *octet == b'\n') {
-        let Some(call) = record::read_line(line) else { break };
-        let before = run.point.clone();
-        let outcome = run.call(&call);
-        let step = Step { before: &before, call: &call, outcome: &outcome, after: &run.point };
+    run::every_call(configuration, record, u64::MAX, |step| {
         for name in step.corners() {
             *counts.get_mut(name).expect("a listed corner") += 1;
         }
-    }
+    });
     counts
 }
 
@@ -114,14 +106,6 @@ type Found = Vec<&'static str>;
 
 fn names(candidates: &[(bool, &'static str)]) -> Found {
     candidates.iter().filter(|(holds, _)| *holds).map(|(_, name)| *name).collect()
-}
-
-/// One call with the states around it.
-struct Step<'a> {
-    before: &'a TransferPoint,
-    call: &'a Call,
-    outcome: &'a Outcome,
-    after: &'a TransferPoint,
 }
 
 /// Whether 127 and 0 are both among the numbers of the sent messages.

@@ -6,9 +6,10 @@ fn kind_of(line: &str) -> Option<String> {
     let fields: Vec<&str> = line.split('\t').collect();
     match fields[..] {
         ["config", ..] => Some("config".to_string()),
+        ["total", ..] => None,
         [_, "reply", reply, ..] => Some(format!("reply {reply:>2}")),
-        [_, "drop", _, reason] => Some(format!("drop {reason}")),
-        [_, kind @ ("pause" | "resume" | "refused"), _] => Some(kind.to_string()),
+        [_, "drop", _, reason, ..] => Some(format!("drop {reason}")),
+        [_, kind @ ("pause" | "resume" | "refused"), ..] => Some(kind.to_string()),
         _ => None,
     }
 }

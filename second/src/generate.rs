@@ -3,12 +3,13 @@
 use std::collections::BTreeMap;
 
 use crate::arrangement::{random_configuration, spoil};
+use crate::circuits::Circuits;
 use crate::configuration;
 use crate::corners::sent_across_the_wrap;
 use crate::point::{Call, Link, LinkState, Reply, USER_PLACES, WINDOW};
 use crate::random::Random;
 use crate::record;
-use crate::replay::Run;
+use crate::run::Run;
 use crate::wire::{self, Label, Management};
 
 pub struct Generated {
@@ -19,18 +20,27 @@ pub struct Generated {
 /// In one seed of eight the last line can't be read, in one the tables are full,
 /// and in one of sixteen the configuration is spoilt after the record was made for it.
 pub fn generate(seed: u64, lines: usize) -> Generated {
+    generate_drawing(seed, lines, None)
+}
+
+/// The calls that the seed gives otherwise, but for the octets of user messages: most have circuits.
+pub fn generate_with_circuits(seed: u64, lines: usize) -> Generated {
+    generate_drawing(seed, lines, Some(Circuits::new(seed)))
+}
+
+fn generate_drawing(seed: u64, lines: usize, circuits: Option<Circuits>) -> Generated {
     let mut random = Random::new(seed);
     let faultless = random_configuration(&mut random, seed % 8 == 2);
     let mut configuration = faultless.clone();
     if seed % 16 == 5 {
         spoil(&mut random, &mut configuration);
     }
-    Generated { configuration, record: made_for(&faultless, seed, lines, random) }
+    let point = configuration::read(faultless.as_bytes()).expect("a faultless configuration");
+    let maker = Maker::new(random, Run::new(point), circuits);
+    Generated { configuration, record: record_of(maker, seed, lines) }
 }
 
-fn made_for(configuration: &str, seed: u64, lines: usize, random: Random) -> String {
-    let point = configuration::read(configuration.as_bytes()).expect("a faultless configuration");
-    let mut maker = Maker::new(random, Run::new(point));
+fn record_of(mut maker: Maker, seed: u64, lines: usize) -> String {
     let readable = if seed % 8 == 7 { lines.saturating_sub(1) } else { lines };
     let mut record: String = (0..readable).map(|_| maker.next_line()).collect();
     if readable < lines {
@@ -134,11 +144,13 @@ pub(crate) struct Maker {
     lines_left: usize,
     /// The pair that the moods Window and Passing fill.
     focus: (u16, u8),
+    /// The second draw of user messages, where it is asked for.
+    circuits: Option<Circuits>,
 }
 
 impl Maker {
-    fn new(random: Random, run: Run) -> Maker {
-        Maker { random, run, taken: BTreeMap::new(), mood: Mood::Recovery, lines_left: 40, focus: (0, 0) }
+    fn new(random: Random, run: Run, circuits: Option<Circuits>) -> Maker {
+        Maker { random, run, taken: BTreeMap::new(), mood: Mood::Recovery, lines_left: 40, focus: (0, 0), circuits }
     }
 
     fn next_line(&mut self) -> String {
@@ -323,6 +335,10 @@ impl Maker {
 
     pub(crate) fn user_octets(&mut self, label: Label, si: u8) -> Vec<u8> {
         let payload = self.payload();
+        let (si, payload) = match &mut self.circuits {
+            Some(circuits) if si != 0 => circuits.draw(si, payload),
+            _ => (si, payload),
+        };
         let mut octets = wire::compose(self.run.point.ni, si, label, &payload);
         self.set_spare_bits(&mut octets);
         octets

@@ -1,32 +1,27 @@
 //! Bookkeeping beside the model: where every arrival number is, what is on the wire,
-//! and what a call may have changed.
+//! whether the fates told agree with both, and what a call may have changed.
 
 use std::collections::{BTreeMap, BTreeSet};
 use std::rc::Rc;
 
+use crate::places::Places;
 use crate::point::{Call, Link, LinkState, Message, Outcome, Output, Reply, Report, TransferPoint};
 use crate::point::{MANAGEMENT_PLACES, USER_PLACES, WINDOW};
+use crate::run::Made;
 use crate::wire::{self, Label};
-
-#[derive(Clone, Copy, PartialEq, Eq, Debug)]
-enum Fate {
-    Acknowledged,
-    Retired,
-    Dropped,
-}
 
 #[derive(Default)]
 pub struct Ledger {
-    fates: BTreeMap<u64, Fate>,
+    places: Places,
     /// Octets of each held number as they were when it was given.
     octets: BTreeMap<u64, Rc<[u8]>>,
     /// Of each link, the FSN and arrival number of what left and is still in its queue.
     on_the_wire: BTreeMap<u8, Vec<(u8, u64)>>,
 }
 
-type Check = Result<(), String>;
+pub(crate) type Check = Result<(), String>;
 
-fn demand(holds: bool, fault: impl FnOnce() -> String) -> Check {
+pub(crate) fn demand(holds: bool, fault: impl FnOnce() -> String) -> Check {
     if holds {
         Ok(())
     } else {
@@ -35,34 +30,18 @@ fn demand(holds: bool, fault: impl FnOnce() -> String) -> Check {
 }
 
 impl Ledger {
-    pub fn enter(&mut self, before: &TransferPoint, call: &Call, outcome: &Outcome, after: &TransferPoint) -> Check {
-        self.enter_fates(before, outcome)?;
+    pub fn enter(&mut self, call: &Call, made: &Made, after: &TransferPoint) -> Check {
+        let Made { before, outcome, fates } = made;
+        self.places.enter(fates, &outcome.effects.reports)?;
+        self.places.check(after)?;
         self.enter_sent(before, call, outcome)?;
-        self.check_places(after)?;
+        self.check_octets(after)?;
         self.check_wire(after)?;
         check_refusal(before, call, outcome, after)?;
         check_standing(before, after)?;
         check_stores(after)?;
         check_timers(after)?;
         check_lemmas(before, outcome, after)
-    }
-
-    fn enter_fates(&mut self, before: &TransferPoint, outcome: &Outcome) -> Check {
-        let effects = &outcome.effects;
-        let dropped = effects.reports.iter().filter_map(|report| match report {
-            Report::Drop { arrival, .. } => Some((*arrival, Fate::Dropped)),
-            _ => None,
-        });
-        let acknowledged = effects.acknowledged.iter().map(|arrival| (*arrival, Fate::Acknowledged));
-        let retired = effects.retired.iter().map(|arrival| (*arrival, Fate::Retired));
-        for (arrival, fate) in dropped.chain(acknowledged).chain(retired) {
-            let held = before.held().any(|message| message.arrival == arrival);
-            demand(held, || format!("{arrival} has {fate:?} but wasn't held"))?;
-            let earlier = self.fates.insert(arrival, fate);
-            demand(earlier.is_none(), || format!("{arrival} has {fate:?} after {earlier:?}"))?;
-            self.octets.remove(&arrival);
-        }
-        Ok(())
     }
 
     /// Of `send`: the message that leaves must be the first unsent one.
@@ -77,23 +56,16 @@ impl Ledger {
         Ok(())
     }
 
-    /// Every arrival number ever given is in exactly one place.
-    fn check_places(&mut self, after: &TransferPoint) -> Check {
-        let mut held: Vec<u64> = after.held().map(|message| message.arrival).collect();
-        held.sort_unstable();
-        if let Some(pair) = held.windows(2).find(|pair| pair[0] == pair[1]) {
-            return Err(format!("{} is held twice", pair[0]));
-        }
+    /// A held message keeps its octets wherever it goes; those of one that has gone are forgotten.
+    fn check_octets(&mut self, after: &TransferPoint) -> Check {
+        let mut held = BTreeMap::new();
         for Message { arrival, octets, .. } in after.held() {
-            demand(*arrival < after.next_arrival, || format!("{arrival} was never given"))?;
-            demand(!self.fates.contains_key(arrival), || format!("{arrival} is held after its end"))?;
-            let given = self.octets.entry(*arrival).or_insert_with(|| octets.clone());
+            let given = self.octets.get(arrival).unwrap_or(octets);
             demand(given == octets, || format!("{arrival} has changed its octets"))?;
+            held.insert(*arrival, octets.clone());
         }
-        let placed = held.len() + self.fates.len();
-        demand(placed as u64 == after.next_arrival, || {
-            format!("{placed} numbers have a place but {} were given", after.next_arrival)
-        })
+        self.octets = held;
+        Ok(())
     }
 
     /// The sent part of each queue is what left, in order, with numbers counted on.

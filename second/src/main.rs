@@ -1,38 +1,72 @@
+use std::ffi::OsString;
 use std::io::Write;
+use std::path::Path;
 use std::process::ExitCode;
 
-use second::{compare, corners, count, generate, replay};
+use second::arguments::{self, Options, Request};
+use second::replay::Written;
+use second::run::End;
+use second::compare::compare;
+use second::compare_traces::compare_traces;
+use second::generate::{generate, generate_with_circuits, Generated};
+use second::{corners, count, replay, trace, words};
 
-const USAGE: &str = "second replay CONFIGURATION RECORD
-second generate SEED LINES CONFIGURATION RECORD
+const USAGE: &str = "second replay [options] CONFIGURATION RECORD
+second trace [options] CONFIGURATION RECORD
+second generate [--circuits] SEED LINES CONFIGURATION RECORD
 second count OUTPUT
 second corners CONFIGURATION RECORD
-second compare RECORD OURS THEIRS";
+second compare [--trace] RECORD OURS THEIRS";
 
-/// The formats name no exit status: 0 for every run written, 1 for files and usage.
-/// Of `compare`: 0 for equal, 1 for different, 2 for files.
+/// 1 where a text is refused, or two outputs differ.
+const REFUSED: u8 = 1;
+/// 2 where the words or the files aren't right, or something couldn't be written.
+const NOT_RUN: u8 = 2;
+
 fn main() -> ExitCode {
-    let arguments: Vec<String> = std::env::args().skip(1).collect();
-    let words: Vec<&str> = arguments.iter().map(String::as_str).collect();
-    let result = match words[..] {
-        ["replay", configuration, record] => run_replay(configuration, record),
-        ["generate", seed, lines, configuration, record] => run_generate(seed, lines, configuration, record),
-        ["count", output] => run_count(output),
-        ["corners", configuration, record] => run_corners(configuration, record),
-        ["compare", record, ours, theirs] => return run_compare(record, ours, theirs),
-        _ => Err(USAGE.to_string()),
+    let mut arguments = std::env::args_os().skip(1);
+    let command = arguments.next().unwrap_or_default();
+    let behind: Vec<OsString> = arguments.collect();
+    let status = match command.to_str() {
+        Some("replay") => run_record(behind, replay::replay_shown),
+        Some("trace") => run_record(behind, trace::trace),
+        _ => run_other(&command, &behind),
     };
-    match result {
-        Ok(()) => ExitCode::SUCCESS,
-        Err(fault) => {
+    status.map_or_else(
+        |fault| {
             eprintln!("{fault}");
-            ExitCode::FAILURE
-        }
-    }
+            ExitCode::from(NOT_RUN)
+        },
+        ExitCode::from,
+    )
 }
 
-fn read(name: &str) -> Result<Vec<u8>, String> {
-    std::fs::read(name).map_err(|fault| format!("{name}: {fault}"))
+fn run_other(command: &OsString, behind: &[OsString]) -> Result<u8, String> {
+    let words: Option<Vec<&str>> = std::iter::once(command).chain(behind).map(|word| word.to_str()).collect();
+    match words.unwrap_or_default()[..] {
+        ["generate", "--circuits", seed, lines, configuration, record] => {
+            write_generated(generate_with_circuits(number(seed)?, number(lines)? as usize), configuration, record)?
+        }
+        ["generate", seed, lines, configuration, record] => {
+            write_generated(generate(number(seed)?, number(lines)? as usize), configuration, record)?
+        }
+        ["count", output] => print(&count::count(&String::from_utf8_lossy(&read(output)?)))?,
+        ["corners", configuration, record] => {
+            print(&corners::text(&corners::corners(&read(configuration)?, &read(record)?)))?
+        }
+        ["compare", "--trace", record, ours, theirs] => return run_compare(compare_traces, [record, ours, theirs]),
+        ["compare", record, ours, theirs] if record != "--trace" => return run_compare(compare, [record, ours, theirs]),
+        _ => return Err(USAGE.to_string()),
+    }
+    Ok(0)
+}
+
+fn named(name: &Path) -> String {
+    arguments::one_line(&name.to_string_lossy())
+}
+
+fn read(name: impl AsRef<Path>) -> Result<Vec<u8>, String> {
+    std::fs::read(&name).map_err(|fault| format!("{}: {fault}", named(name.as_ref())))
 }
 
 fn write(name: &str, text: &str) -> Result<(), String> {
@@ -45,41 +79,42 @@ fn print(text: &str) -> Result<(), String> {
     written.map_err(|fault| format!("standard output: {fault}"))
 }
 
-/// Both files are read before anything is written.
-fn run_replay(configuration: &str, record: &str) -> Result<(), String> {
-    let configuration = read(configuration)?;
-    let record = read(record)?;
-    print(&replay::replay(&configuration, &record))
+/// Replay or trace: both files are read before anything is run or written.
+fn run_record<T: Options>(behind: Vec<OsString>, run: fn(&[u8], &[u8], &T) -> Written) -> Result<u8, String> {
+    let (options, configuration, record) = match arguments::read::<T>(behind)? {
+        Request::Help => return print(T::HELP).map(|()| 0),
+        Request::Run { options, configuration, record } => (options, configuration, record),
+    };
+    let written = run(&read(&configuration)?, &read(&record)?, &options);
+    print(&written.text)?;
+    Ok(tell_refusal(written.end, configuration.as_ref(), record.as_ref()))
 }
 
-fn run_generate(seed: &str, lines: &str, configuration: &str, record: &str) -> Result<(), String> {
-    let seed = seed.parse().map_err(|_| format!("{seed} is no seed"))?;
-    let lines = lines.parse().map_err(|_| format!("{lines} is no count of lines"))?;
-    let generated = generate::generate(seed, lines);
+/// The status of a run, and one line about what was refused in it.
+fn tell_refusal(end: End, configuration: &Path, record: &Path) -> u8 {
+    let (file, line, fault) = match end {
+        End::AllRun => return 0,
+        End::ConfigurationRefused(fault) => (configuration, fault.line, fault.code),
+        End::Unreadable(line) => (record, line, words::UNREADABLE),
+    };
+    eprintln!("{}: line {line}: {}", named(file), words::of_fault(fault));
+    REFUSED
+}
+
+fn number(word: &str) -> Result<u64, String> {
+    word.parse().map_err(|_| format!("{}: no number", arguments::one_line(word)))
+}
+
+fn write_generated(generated: Generated, configuration: &str, record: &str) -> Result<(), String> {
     write(configuration, &generated.configuration)?;
     write(record, &generated.record)
 }
 
-fn run_count(output: &str) -> Result<(), String> {
-    print(&count::count(&String::from_utf8_lossy(&read(output)?)))
-}
+type Compare = fn(&[u8], &[u8], &[u8]) -> Option<String>;
 
-fn run_corners(configuration: &str, record: &str) -> Result<(), String> {
-    print(&corners::text(&corners::corners(&read(configuration)?, &read(record)?)))
-}
-
-fn difference(record: &str, ours: &str, theirs: &str) -> Result<Option<String>, String> {
-    Ok(compare::compare(&read(record)?, &read(ours)?, &read(theirs)?))
-}
-
-fn run_compare(record: &str, ours: &str, theirs: &str) -> ExitCode {
-    let found = difference(record, ours, theirs);
-    match found.and_then(|text| text.map(|text| print(&text)).transpose()) {
-        Ok(None) => ExitCode::SUCCESS,
-        Ok(Some(())) => ExitCode::FAILURE,
-        Err(fault) => {
-            eprintln!("{fault}");
-            ExitCode::from(2)
-        }
+fn run_compare(compare: Compare, [record, ours, theirs]: [&str; 3]) -> Result<u8, String> {
+    match compare(&read(record)?, &read(ours)?, &read(theirs)?) {
+        None => Ok(0),
+        Some(text) => print(&text).map(|()| REFUSED),
     }
 }

@@ -121,7 +121,7 @@ pub enum Output {
     RouteList(Vec<String>),
 }
 
-/// What a call with reply 0 brings; the last two lists serve the bookkeeping only.
+/// What a call with reply 0 brings; the last two lists serve the fates and the bookkeeping only.
 #[derive(Clone, PartialEq, Eq, Debug, Default)]
 pub struct Effects {
     pub output: Output,

@@ -1,67 +1,121 @@
-//! A run: a point, its ledger, and what is written of each call.
+//! What is written of a run: of each call its answer.
 
-use crate::configuration;
-use crate::ledger::Ledger;
-use crate::point::{Call, Outcome, Output, Report, TransferPoint};
-use crate::record::{self, hex};
+use crate::options::Shown;
+use crate::point::{Outcome, Output, Report};
+use crate::record::hex;
+use crate::run::{self, End, Step};
+use crate::totals::Totals;
+use crate::words;
 
-pub struct Run {
-    pub point: TransferPoint,
-    ledger: Ledger,
-    lines: usize,
+/// The text of a run, and how the run ended.
+pub struct Written {
+    pub text: String,
+    pub end: End,
 }
 
-impl Run {
-    pub fn new(point: TransferPoint) -> Run {
-        Run { point, ledger: Ledger::default(), lines: 0 }
-    }
-
-    /// Make one call with the bookkeeping on; a fault found there ends the program.
-    pub fn call(&mut self, call: &Call) -> Outcome {
-        self.lines += 1;
-        let before = self.point.clone();
-        let outcome = self.point.call(call);
-        if let Err(fault) = self.ledger.enter(&before, call, &outcome, &self.point) {
-            panic!("line {}: {fault}", self.lines);
-        }
-        outcome
-    }
-}
-
+/// With no options.
 pub fn replay(configuration: &[u8], record: &[u8]) -> String {
-    let point = match configuration::read(configuration) {
-        Ok(point) => point,
-        Err(fault) => return format!("config\t{}\t{}\n", fault.line, fault.code),
-    };
-    let mut run = Run::new(point);
-    let mut text = String::new();
-    for (place, line) in record.split_inclusive(|octet| *octet == b'\n').enumerate() {
-        let number = place + 1;
-        let Some(call) = record::read_line(line) else {
-            text += &format!("{number}\trefused\t30\n");
-            break;
-        };
-        write_outcome(&mut text, number, &run.call(&call));
-    }
-    text
+    replay_shown(configuration, record, &Shown::default()).text
 }
 
-fn write_outcome(text: &mut String, number: usize, outcome: &Outcome) {
+pub fn replay_shown(configuration: &[u8], record: &[u8], shown: &Shown) -> Written {
+    let mut answers = Answers { shown, text: String::new(), totals: Totals::default() };
+    let end = run::every_call(configuration, record, shown.last_run(), |step| answers.write(step));
+    let Answers { mut text, totals, .. } = answers;
+    text += &refusal(end, shown.words);
+    // What is said of a refused configuration stands alone.
+    if shown.summary && !matches!(end, End::ConfigurationRefused(_)) {
+        text += &totals.text(shown);
+    }
+    Written { text, end }
+}
+
+/// The line that ends a run which was refused; it is shown whatever is asked for.
+pub(crate) fn refusal(end: End, with_words: bool) -> String {
+    let (line, fault) = match end {
+        End::AllRun => return String::new(),
+        End::ConfigurationRefused(fault) => (format!("config\t{}\t{}", fault.line, fault.code), fault.code),
+        End::Unreadable(number) => (format!("{number}\trefused\t{}", words::UNREADABLE), words::UNREADABLE),
+    };
+    format!("{line}{}\n", behind(with_words, Some(words::of_fault(fault))))
+}
+
+/// The field more that words make.
+fn behind(with_words: bool, words: Option<&str>) -> String {
+    words.filter(|_| with_words).map_or(String::new(), |words| format!("\t{words}"))
+}
+
+/// The answers shown so far.
+struct Answers<'a> {
+    shown: &'a Shown,
+    text: String,
+    totals: Totals,
+}
+
+impl Answers<'_> {
+    fn write(&mut self, step: &Step) {
+        if !self.shown.covers(step.number) {
+            return;
+        }
+        if self.shown.calls {
+            self.line(step, &format!("call\t{}", String::from_utf8_lossy(step.line)));
+        }
+        if !self.shown.only_reports {
+            self.write_reply(step);
+        }
+        if self.shown.fates {
+            self.write_fates(step);
+        }
+        self.write_reports(step);
+        if !self.shown.only_reports {
+            self.write_routes(step);
+        }
+    }
+
+    fn line(&mut self, step: &Step, rest: &str) {
+        self.text += &format!("{}\t{rest}\n", step.number);
+    }
+
+    fn write_reply(&mut self, step: &Step) {
+        let reply = step.outcome.reply;
+        self.totals.reply(reply);
+        let words = behind(self.shown.words, words::of_reply(reply));
+        self.line(step, &format!("{}{words}", reply_text(step.outcome)));
+    }
+
+    fn write_fates(&mut self, step: &Step) {
+        for fate in step.fates {
+            self.totals.fate(fate);
+            self.line(step, &fate.to_string());
+        }
+    }
+
+    fn write_reports(&mut self, step: &Step) {
+        for report in &step.outcome.effects.reports {
+            self.totals.report(report);
+            let reason = match report {
+                Report::Drop { reason, .. } => Some(words::of_reason(*reason)),
+                _ => None,
+            };
+            self.line(step, &format!("{}{}", report_text(report), behind(self.shown.words, reason)));
+        }
+    }
+
+    fn write_routes(&mut self, step: &Step) {
+        if let Output::RouteList(lines) = &step.outcome.effects.output {
+            for line in lines {
+                self.line(step, &format!("route\t{line}"));
+            }
+        }
+    }
+}
+
+fn reply_text(outcome: &Outcome) -> String {
     let reply = outcome.reply as u8;
     match &outcome.effects.output {
-        Output::Leaves { fsn, octets } => {
-            *text += &format!("{number}\treply\t{reply}\t{fsn}\t{}\n", hex(octets));
-        }
-        Output::Delivered(part) => *text += &format!("{number}\treply\t{reply}\t{}\n", hex(part)),
-        Output::Nothing | Output::RouteList(_) => *text += &format!("{number}\treply\t{reply}\n"),
-    }
-    for report in &outcome.effects.reports {
-        *text += &format!("{number}\t{}\n", report_text(report));
-    }
-    if let Output::RouteList(lines) = &outcome.effects.output {
-        for line in lines {
-            *text += &format!("{number}\troute\t{line}\n");
-        }
+        Output::Leaves { fsn, octets } => format!("reply\t{reply}\t{fsn}\t{}", hex(octets)),
+        Output::Delivered(part) => format!("reply\t{reply}\t{}", hex(part)),
+        Output::Nothing | Output::RouteList(_) => format!("reply\t{reply}"),
     }
 }
 

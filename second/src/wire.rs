@@ -60,6 +60,20 @@ pub enum Management {
 }
 
 impl Management {
+    pub fn name(self) -> &'static str {
+        match self {
+            Management::Coo { .. } => "COO",
+            Management::Coa { .. } => "COA",
+            Management::Cbd { .. } => "CBD",
+            Management::Cba { .. } => "CBA",
+            Management::Eco => "ECO",
+            Management::Eca => "ECA",
+            Management::Tfp { .. } => "TFP",
+            Management::Tfa { .. } => "TFA",
+            Management::Rst { .. } => "RST",
+        }
+    }
+
     /// What stands after the label; none if the heading isn't listed or the total is wrong.
     pub fn read(body: &[u8]) -> Option<Management> {
         Some(match *body {

@@ -2,7 +2,7 @@
 
 use second::configuration;
 use second::point::{Call, LinkState, Outcome, Output, Reply, Report, ARRIVAL_NUMBERS};
-use second::replay::Run;
+use second::run::Run;
 use second::wire::{compose, Label, Management};
 
 /// Node 2, NI 2. Sets: 0 to point 1, 1 to point 3, 2 to point 4.

@@ -1,6 +1,8 @@
 //! The example worked by hand in the text formats.
 
-use second::replay::replay;
+use second::options::{Asked, Shown};
+use second::replay::{replay, replay_shown};
+use second::trace::trace;
 
 const CONFIGURATION: &str = "
 node 2 2
@@ -90,6 +92,53 @@ fn with_tabs(text: &str) -> String {
 fn as_worked_by_hand() {
     let output = replay(with_tabs(CONFIGURATION).as_bytes(), with_tabs(RECORD).as_bytes());
     assert_eq!(output, with_tabs(WRITTEN));
+}
+
+/// What each line says of messages, behind its reply; no line has both fates and reports.
+const FATES: &str = "
+3 queued 0 0 CBD
+4 sent 0 0 0
+6 queued 1 0
+7 queued 2 0
+8 queued 3 1
+9 sent 1 0 1
+10 sent 2 0 2
+11 acknowledged 0 0
+11 acknowledged 1 0
+12 queued 4 1 COO
+13 sent 3 1 0
+14 sent 4 1 1
+15 moved 2 0 1
+16 sent 2 1 2
+";
+
+#[test]
+fn fates_as_worked_by_hand() {
+    let shown = Shown { fates: true, ..Shown::default() };
+    let output = replay_shown(with_tabs(CONFIGURATION).as_bytes(), with_tabs(RECORD).as_bytes(), &shown).text;
+    let (plain, fates) = (with_tabs(WRITTEN), with_tabs(FATES));
+    let number = |line: &str| line.split('\t').next().unwrap().parse::<usize>().unwrap();
+    let mut expected: Vec<&str> = plain.lines().chain(fates.lines()).collect();
+    // Stable, so that the fates of a line stand behind its reply.
+    expected.sort_by_key(|line| number(line));
+    assert_eq!(output.lines().collect::<Vec<_>>(), expected);
+}
+
+#[test]
+fn traced_as_worked_by_hand() {
+    let of = |asked: &Asked| trace(with_tabs(CONFIGURATION).as_bytes(), with_tabs(RECORD).as_bytes(), asked).text;
+    let expected = "0|3|2|1|1|CBD|acknowledged on 0 as 0 at 11
+1|6|2|9|0|si 5 a0|acknowledged on 0 as 1 at 11
+3|8|2|9|1|si 5 a1|dropped at 24: sent, and what the far end took isn't known
+4|12|2|1|0|COO|dropped at 24: sent, and what the far end took isn't known
+2|7|2|9|2|si 5 a2|moved 0 to 1 at 15; dropped at 24: sent, and what the far end took isn't known
+";
+    assert_eq!(of(&Asked::default()), expected.replace('|', "\t"));
+    let changeovers = Asked { changeovers: true, ..Asked::default() };
+    assert_eq!(of(&changeovers), "link 0: failed at line 12, changed over at line 15 by COA with number 1; \
+        0 retired, 1 moved (1 to link 1), 0 dropped
+link 1: failed at line 22, changed over at line 24 by T1; 0 retired, 0 moved, 3 dropped
+");
 }
 
 #[test]
