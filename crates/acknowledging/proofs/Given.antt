@@ -8,7 +8,7 @@ use lib.Dec.{eqb}
 use Rattle.plan.specs.declared.data.Plan.{Plan}
 use Rattle.replies.specs.Reply.{row, first}
 use Rattle.lookup.specs.Lookup.{isLink}
-use Rattle.acknowledging.specs.Acknowledge.{outOfRange, isOpen, bInRange, replyOf}
+use Rattle.acknowledging.specs.Acknowledge.{outOfRange, linkOpen, bInRange, replyOf}
 
 -- a reply, by whether an argument is out of range, the link is configured, it is open, and the number is in range
 pub record GivenWhen (reply : ℕ) (out known opened near : Bool) : Type 0 where
@@ -27,7 +27,7 @@ in-order false true false near = record { one = refl; two = refl; five = refl; s
 in-order false true true false = record { one = refl; two = refl; five = refl; six = refl; none = refl }
 in-order false true true true = record { one = refl; two = refl; five = refl; six = refl; none = refl }
 
-pub given-when : (plan : Plan) (links : List ℕ) (link b : ℕ) → GivenWhen (replyOf plan links link b) (outOfRange link b) (isLink plan link) (isOpen links link) (bInRange links link b)
+pub given-when : (plan : Plan) (links : List ℕ) (link b : ℕ) → GivenWhen (replyOf plan links link b) (outOfRange link b) (isLink plan link) (linkOpen links link) (bInRange links link b)
 unfolding replyOf
 given-when plan links link b =
-    in-order (outOfRange link b) (isLink plan link) (isOpen links link) (bInRange links link b)
+    in-order (outOfRange link b) (isLink plan link) (linkOpen links link) (bInRange links link b)

@@ -15,7 +15,7 @@ use Rattle.replies.proofs.Rows.{none-applies}
 use Rattle.area_links.specs.LinkRecords.{recordAt}
 use Rattle.lookup.specs.Lookup.{isLink}
 use Rattle.numbers.specs.Numbers.{upTo, leftSent}
-use Rattle.acknowledging.specs.Acknowledge.{outOfRange, isOpen, bInRange}
+use Rattle.acknowledging.specs.Acknowledge.{outOfRange, linkOpen, bInRange}
 use Rattle.acknowledging.specs.Acknowledge as Acknowledge
 
 -- from one count on to a later one, both below the modulus, it is their difference
@@ -35,7 +35,7 @@ module _ (plan : Plan) (links : List ℕ) (link b : ℕ) (done : Acknowledge.rep
       let known = recordAt links link in
       let after-1 = none-applies 0 (outOfRange link b) _ done .1 in
       let after-2 = none-applies 1 (not (isLink plan link)) _ after-1 .1 in
-      let after-5 = none-applies 4 (not (isOpen links link)) _ after-2 .1 in
+      let after-5 = none-applies 4 (not (linkOpen links link)) _ after-2 .1 in
       let row-6 = none-applies 5 (not (bInRange links link b)) _ after-5 .0 in
       let near = sym (in-range 128 (lit< tt) (known .acknowledged) (known .sent) b) ∙ not-false (bInRange links link b) row-6 in
       left 128 (lit< tt) (upTo known b) (known .sent) (leb-true (upTo known b) (known .sent) near) (mod-lt _ (lit< tt))

@@ -20,8 +20,8 @@ abbrev pub outOfRange : ℕ → ℕ → Bool
 outOfRange link b = leb linkCount link || leb 128 b
 
 -- whether the event fits the link's state
-abbrev pub isOpen : List ℕ → ℕ → Bool
-isOpen links link = eqb (recordAt links link .state) stateOpen
+abbrev pub linkOpen : List ℕ → ℕ → Bool
+linkOpen links link = eqb (recordAt links link .state) stateOpen
 
 -- "B is in range" (R47, R108)
 abbrev pub bInRange : List ℕ → ℕ → ℕ → Bool
@@ -32,7 +32,7 @@ abbrev pub refusalsOf : Plan → List ℕ → ℕ → ℕ → List Row
 refusalsOf plan links link b =
     row 1 (outOfRange link b)
     ∷ row 2 (not (isLink plan link))
-    ∷ row 5 (not (isOpen links link))
+    ∷ row 5 (not (linkOpen links link))
     ∷ row 6 (not (bInRange links link b))
     ∷ []
 

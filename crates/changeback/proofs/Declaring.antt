@@ -8,6 +8,7 @@ use lib.Dec.{eqb}
 use borrow.Author.Tests.{lt-ltb, le-ltb}
 use borrow.Table.Steps.{cases}
 use Rattle.plan.specs.declared.data.Plan.{Plan}
+use Rattle.wire_messages.specs.declared.management.Message.the-variants.{CBD}
 use Rattle.route_choice.specs.Which.{none}
 use Rattle.lookup.specs.Lookup.{slcOf, adjacentOf}
 use Rattle.queue_joining.specs.Queue.{managementReply}
@@ -32,7 +33,7 @@ module _ (plan : Plan) (link : ℕ) (from : Sources) (spans rings rows arrivals 
   -- some do, from one
   pub is-declared : from .own < none → (point slc reply : ℕ) (spans′ rings′ rows′ arrivals′ : List ℕ)
       → point ≡ adjacentOf plan link → slc ≡ slcOf plan link
-      → ManagementLeaves spans rings arrivals rows (from .own) 0x51 point slc (from .own) reply spans′ rings′ rows′ arrivals′
+      → ManagementLeaves spans rings arrivals rows (from .own) (CBD (from .own)) point slc reply spans′ rings′ rows′ arrivals′
       → DeclareLeaves reply spans′ rings′ rows′ arrivals′
   unfolding declareReply declared
   is-declared h point slc reply spans′ rings′ rows′ arrivals′ at coded e =
@@ -47,5 +48,5 @@ declared-kept plan link from now refused =
     (λ e.
     let lacks : eqb (managementReply (now .queues .spans) (now .arrivals)) 0 ≡ false = simp e at refused in
     simp e
-    (management-kept (from .own) 0x51 (adjacentOf plan link) (slcOf plan link) (from .own) now lacks))
+    (management-kept (from .own) (CBD (from .own)) (adjacentOf plan link) (slcOf plan link) now lacks))
     (λ e. simp e)

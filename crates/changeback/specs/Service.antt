@@ -3,6 +3,7 @@ use Prim.Native.Nat.{ℕ}
 use mathlib.Core.Bool.{cond}
 use mathlib.Core.List.{List}
 use Rattle.plan.specs.declared.data.Plan.{Plan}
+use Rattle.wire_messages.specs.declared.management.Message.the-variants.{CBD}
 use Rattle.replies.specs.Reply.{done, ifDone}
 use Rattle.replies.specs.Areas.{Areas, areas, Outcome, outcome, judged}
 use Rattle.reports.specs.Report.{Log, log}
@@ -27,7 +28,7 @@ replyOf plan a link =
 -- "a CBD is put at the end of M's queue, the code being M's link number" (R93, R94, R118)
 unfoldable pub declared : Plan → ℕ → Sources → Held → Held
 declared plan link from now =
-    cond (declares from) (withManagement (from .own) 0x51 (adjacentOf plan link) (slcOf plan link) (from .own) now) now
+    cond (declares from) (withManagement (from .own) (CBD (from .own)) (adjacentOf plan link) (slcOf plan link) now) now
 
 -- a resume for each destination that has access now
 unfoldable pub resumed : Plan → Areas → ℕ → Log

@@ -13,6 +13,7 @@ use replies::done;
 use replies::plain;
 use route_access::accesses;
 use route_access::report_changes;
+use wire_messages::management::Message;
 ghost use Rattle.plan_words.specs.Words.{planOf};
 ghost use mathlib.Core.Path.{_≡_};
 ghost use Rattle.replies.specs.Areas.{old, Leaves, before, after};
@@ -43,10 +44,9 @@ fn declare(
         rows,
         arrivals,
         own,
-        0x51,
+        Message::CBD(own),
         adjacent_of(plan, link),
         slc_of(plan, link),
-        own as u16,
     )
 }
 

@@ -19,7 +19,7 @@ use Rattle.plan.specs.Sound.{Sound, linkIn}
 use Rattle.area_links.specs.LinkRecords.{recordAt, withRecord}
 use Rattle.route_choice.specs.Which.{none, chosen}
 use Rattle.route_serving.specs.State.{serves, isMarked}
-use Rattle.route_choice.specs.Chosen.{usedLinks, Back, Takes, Stands}
+use Rattle.route_choice.specs.Chosen.{usedLinks, Back, Takes, StandsInSet}
 use Rattle.route_choice.proofs.Serving.{round-length, round-at}
 use Rattle.route_serving.proofs.Proper.{serves-proper}
 use Rattle.route_choice.proofs.Used.{route-used, used-first}
@@ -34,7 +34,7 @@ use Rattle.changeback_pairs.proofs.Coming.{no-source, other-source, known-sourc
 
 module _ (plan : Plan) (sound : Sound plan) where
   -- the set that a link stands in is its own
-  own-set : (link set : ℕ) → Stands plan link set → setOf plan link ≡ set
+  own-set : (link set : ℕ) → StandsInSet plan link set → setOf plan link ≡ set
   unfolding setOf
   own-set link set stands =
       let links = linksOf plan set in
@@ -51,7 +51,7 @@ module _ (plan : Plan) (sound : Sound plan) where
 
   -- a link that the rule yields stands in its set
   stands-in : (serves marked : ℕ → Bool) (destination sls link : ℕ) → chosen serves marked plan destination sls ≡ link
-      → link < none → Stands plan link (setOf plan link)
+      → link < none → StandsInSet plan link (setOf plan link)
   stands-in serves marked destination sls link is h =
       let used = route-used serves marked plan destination sls (omega arith) in
       let rank = used .0 in
@@ -60,12 +60,12 @@ module _ (plan : Plan) (sound : Sound plan) where
       let first = used-first serves marked plan destination sls rank (used .1) in
       let inside : first .place < length links = omega (arith, first .in-turn, round-length links start) in
       let all : 0 < length links = omega arith in
-      let there : Stands plan link _ = record {
+      let there : StandsInSet plan link _ = record {
         place = (start + first .place) % length links;
         in-the-set = mod-lt (start + first .place) all;
         stands-there = sym (round-at links start (mod-lt sls all) (first .place) none inside) ∙ first .stands-there ∙ is;
       } in
-      subst (λ (set : ℕ). Stands plan link set) (sym (own-set link _ there)) there
+      subst (λ (set : ℕ). StandsInSet plan link set) (sym (own-set link _ there)) there
 
 module _ (plan : Plan) (sound : Sound plan) (before after marks : List ℕ) (link : ℕ)
     (back : Back (serves before forUsers) (serves after forUsers) link) where
@@ -110,7 +110,7 @@ module _ (plan : Plan) (sound : Sound plan) (before after marks : List ℕ) (lin
       in
       taken-from-one (serves before forUsers) (serves after forUsers) link back plan (sound-apart plan sound) (setOf plan link)
       there (isMarked marks (pair / 16)) (isMarked marks (pair′ / 16)) (pair / 16) (pair′ / 16) (pair % 16) (pair′ % 16)
-      (from pair) (from pair′) one other (subst (λ (set : ℕ). Stands plan (from pair) set) (own .1) came)
+      (from pair) (from pair′) one other (subst (λ (set : ℕ). StandsInSet plan (from pair) set) (own .1) came)
 
   -- sources that some pairs have
   record Found (known : Sources) : Type 0 where

@@ -3,6 +3,7 @@
 use Prim.Native.Nat.{ℕ}
 use mathlib.Core.Bool.{cond}
 use lib.Dec.{eqb}
+use Rattle.constants.specs.Constants.{stateWaiting}
 use Rattle.plan.specs.declared.data.Plan.{Plan}
 use Rattle.area_links.specs.LinkRecords.{recordAt, withRecord}
 use Rattle.replies.specs.Reply.{done}
@@ -28,5 +29,5 @@ openFailed plan a link =
 unfoldable pub failed : Plan → Areas → ℕ → Outcome
 failed plan a link =
     judged (replyOf plan (a .links) link (a .reports))
-    (cond (eqb (stateAt (a .links) link) 1) (outOfService plan a link cutNone) (openFailed plan a link))
+    (cond (eqb (stateAt (a .links) link) stateWaiting) (outOfService plan a link cutNone) (openFailed plan a link))
     a

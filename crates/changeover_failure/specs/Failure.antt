@@ -10,6 +10,7 @@ use Rattle.area_links.specs.LinkRecords.{recordAt}
 use Rattle.replies.specs.Reply.{Row, row, first}
 use Rattle.reports.specs.Report.{short}
 use Rattle.lookup.specs.Lookup.{isLink, slcOf, adjacentOf}
+use Rattle.wire_messages.specs.declared.management.Message.the-variants.{COO}
 use Rattle.management_making.specs.declared.Draft.{Draft}
 
 -- a link's state
@@ -31,10 +32,9 @@ replyOf plan links link reports = first (refusalsOf plan links link reports)
 unfoldable pub orderOf : Plan → List ℕ → ℕ → Draft
 orderOf plan links link =
     record {
-      heading = 0x11;
+      message = COO (recordAt links link .received);
       point = adjacentOf plan link;
       slc = slcOf plan link;
-      field = recordAt links link .received;
       never = link;
     }
 

@@ -10,6 +10,7 @@ use lookup::is_link;
 use lookup::slc_of;
 use management_making::Draft;
 use reports::short;
+use wire_messages::management::Message;
 ghost use Rattle.plan_words.specs.Words.{planOf};
 ghost use mathlib.Core.Path.{_≡_};
 ghost use Rattle.changeover_failure.specs.Failure as Failure;
@@ -44,10 +45,9 @@ pub fn order_of(plan: &[u16; 1024], links: &[u32; 256], link: u8) -> Draft
 {
     let known = load_link(links, link);
     Draft {
-        heading: 0x11,
+        message: Message::COO(known.received),
         point: adjacent_of(plan, link),
         slc: slc_of(plan, link),
-        field: known.received as u16,
         never: link,
     }
 }

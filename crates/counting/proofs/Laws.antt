@@ -24,6 +24,12 @@ module _ (m : ℕ) (some : 0 < m) where
       let round : a % m + (k + (m - a % m)) ≡ k + m = omega arith in
       sym (mod-add-mod a m (k + (m - a % m))) ∙ ap (λ (x : ℕ). x % m) round ∙ add-mod-right k m
 
+  -- so many steps on, and so many more
+  pub onward-more : (a j k : ℕ) → onward m a (j + k) ≡ onward m (onward m a j) k
+  onward-more a j k =
+      let sum : a + (j + k) ≡ a + j + k = omega arith in
+      ap (λ (x : ℕ). x % m) sum ∙ sym (mod-add-mod (a + j) m k)
+
   -- the number at a distance is reached by that many steps
   pub onward-distance : (a b : ℕ) → onward m a (distance m a b) ≡ b % m
   onward-distance a b = add-mod-mod a (b + (m - a % m)) m ∙ turn a b

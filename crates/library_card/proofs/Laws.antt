@@ -3,11 +3,10 @@
 -- Assumes nothing.
 use mathlib.Core.Path.{_≡_, sym, ap, _∙_}
 use Prim.Native.Nat.{ℕ, _+_, _%_, _<_}
-use native.Mathlib.Nat.{mod-add-mod, add-mod-mod}
-use native.Mathlib.Omega.{arith}
+use native.Mathlib.Nat.{add-mod-mod}
 use lib.Dec.{lit<}
 use Rattle.counting.specs.Counting.{onward, next, distance, inRange}
-use Rattle.counting.proofs.Laws.{onward-distance, distance-steps}
+use Rattle.counting.proofs.Laws.{onward-more, onward-distance, distance-steps}
 use Rattle.library_card.specs.declared.Record.{Record}
 use Rattle.library_card.specs.Card.{sentOne, outstanding, accepts}
 
@@ -19,8 +18,7 @@ module _ (link : Record) (a n : ℕ) (acknowledged-is : link .acknowledged ≡ a
   -- the next number is that of one more sent
   pub number-on : sentOne link .number ≡ onward 128 a (next 128 n)
   number-on =
-      let sum : a + n + 1 ≡ a + (n + 1) = omega arith in
-      ap (next 128) sent-is ∙ mod-add-mod (a + n) 128 1 ∙ ap (λ (x : ℕ). x % 128) sum ∙ sym (add-mod-mod a (n + 1) 128)
+      ap (next 128) sent-is ∙ sym (onward-more 128 (lit< tt) a n 1) ∙ sym (add-mod-mod a (n + 1) 128)
 
   module _ (few : n < 128) where
     -- so many are sent and unacknowledged

@@ -46,9 +46,9 @@ pub extern "C" fn transfer_point_route_list_lent(
 ) -> Answer
     ensures { λ r. ⌜ r ≡
         RouteList.listAnswer (RouteList.listReply (now (out .entry)) (planOf plan))
-        (length (RouteList.listed (now (out .entry)) (now (links .entry)) (now (marks .entry)) (planOf plan))) ⌝ }
+        (length (RouteList.listWritten (now (out .entry)) (now (links .entry)) (now (marks .entry)) (planOf plan))) ⌝ }
     ensures { λ r. ⌜ now (out .exit) ≡
-        RouteList.laid (now (out .entry)) 0 (RouteList.listed (now (out .entry)) (now (links .entry)) (now (marks .entry)) (planOf plan)) ⌝ }
+        RouteList.laid (now (out .entry)) 0 (RouteList.listWritten (now (out .entry)) (now (links .entry)) (now (marks .entry)) (planOf plan)) ⌝ }
 {
     route_list(plan, links, marks, out)
 }

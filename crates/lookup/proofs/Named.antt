@@ -8,7 +8,7 @@ use lib.ListN.{length, getD, length-take}
 use lib.Seq.{getD-take}
 use borrow.Author.Tests.{eqb-true}
 use Rattle.plan.specs.declared.data.Plan.{Plan}
-use Rattle.plan.specs.Data.{noRoute, setAt, linkAt, linksOf, routesOf}
+use Rattle.plan.specs.Data.{absentRoute, setAt, linkAt, linksOf, routesOf}
 use Rattle.plan.specs.Sound.{Sound}
 use Rattle.lookup.specs.Lookup.{setTo, linkNamed, rankBy, setOf}
 use Rattle.lookup.proofs.Walks.{yielded, sets-walk, links-walk, routes-walk}
@@ -35,16 +35,16 @@ module _ (plan : Plan) where
 
   -- a route whose rank is found is given, and goes by the set
   pub rank-in-range : (destination set : ℕ) → rankBy plan destination set < 4
-      → let route = getD (routesOf plan destination) (rankBy plan destination set) noRoute in
+      → let route = getD (routesOf plan destination) (rankBy plan destination set) absentRoute in
       (route .given ≡ true) × (route .set ≡ set)
   unfolding rankBy
   rank-in-range destination set =
       let routes = routesOf plan destination in
-      let Found : ℕ → Type 0 = λ rank. rank < 4 → (getD routes rank noRoute .given ≡ true) × (getD routes rank noRoute .set ≡ set) in
+      let Found : ℕ → Type 0 = λ rank. rank < 4 → (getD routes rank absentRoute .given ≡ true) × (getD routes rank absentRoute .set ≡ set) in
       let none : Found 4 = λ within. absurd (omega arith) in
       either Found (ltb destination 64) _ 4
       (yielded (routes-walk set routes (length routes) refl) Found
-      (λ rank h passes within. both (getD routes rank noRoute .given) (getD routes rank noRoute .set) set passes)
+      (λ rank h passes within. both (getD routes rank absentRoute .given) (getD routes rank absentRoute .set) set passes)
       none)
       none
 

@@ -74,13 +74,13 @@ module _ {test : ℕ → Bool} {value : ℕ → ℕ} {none n : ℕ} {left : ℕ 
 
 -- the tests: a set to the point, a link with the SLC, a route by the set
 abbrev pub set-passes : List LinkSet → ℕ → ℕ → Bool
-set-passes sets point set = getD sets set Data.noSet .given && eqb (getD sets set Data.noSet .adjacent) point
+set-passes sets point set = getD sets set Data.absentSet .given && eqb (getD sets set Data.absentSet .adjacent) point
 
 abbrev pub link-passes : List Link → ℕ → ℕ → Bool
-link-passes all slc link = ltb link 32 && eqb (getD all link Data.noLink .slc) slc
+link-passes all slc link = ltb link 32 && eqb (getD all link Data.absentLink .slc) slc
 
 abbrev pub route-passes : List Route → ℕ → ℕ → Bool
-route-passes routes set rank = getD routes rank Data.noRoute .given && eqb (getD routes rank Data.noRoute .set) set
+route-passes routes set rank = getD routes rank Data.absentRoute .given && eqb (getD routes rank Data.absentRoute .set) set
 
 -- the three searches
 pub sets-walk : (plan : Plan) (point : ℕ)
@@ -110,6 +110,6 @@ pub routes-walk : (set : ℕ) (routes : List Route) (n : ℕ) → length routes 
 unfolding rankFrom
 routes-walk set routes n all =
     record {
-      step = λ i h. simp (add-one, drop-cons routes i Data.noRoute (omega arith));
+      step = λ i h. simp (add-one, drop-cons routes i Data.absentRoute (omega arith));
       end = λ i h. simp (drop-of-length-le routes {i = i} (omega arith));
     }

@@ -7,6 +7,7 @@ use Rattle.plan.specs.declared.data.Plan.{Plan}
 use Rattle.area_links.specs.declared.LinkRecord.{LinkRecord}
 use Rattle.area_links.specs.LinkRecords.{recordAt}
 use Rattle.lookup.specs.Lookup.{linkNamed}
+use Rattle.wire_messages.specs.declared.management.Message.the-variants.{COA}
 use Rattle.management_making.specs.declared.Draft.{Draft}
 use Rattle.changeover_cuts.specs.declared.Cut.{Cut}
 use Rattle.changeover_cuts.specs.Cuts.{cutAt, cutUnknown}
@@ -35,7 +36,7 @@ module _ (plan : Plan) (point slc link : ℕ) (is : link ≡ linkNamed plan poin
     -- COO
     module _ (arriving fsn f : ℕ) (step : Step) where
       abbrev coa : ℕ → Draft
-      coa l = draft 0x21 point slc (lastReceived links arriving fsn l) l
+      coa l = draft (COA (lastReceived links arriving fsn l)) point slc l
 
       pub coo-of-none : 32 ≤ link → step ≡ nothing → step ≡ askCOO plan links arriving fsn point slc f
       unfolding askCOO
@@ -43,13 +44,13 @@ module _ (plan : Plan) (point slc link : ℕ) (is : link ≡ linkNamed plan poin
 
       pub coo-ordered : link < 32 → (known : LinkRecord) (received : ℕ) (emergency : Draft) (parts : Cut)
           → known ≡ recordAt links link → received ≡ lastReceived links arriving fsn link → emergency ≡ emergencyOf point slc link
-          → parts ≡ cutAt known f → step ≡ orderStep known link (draft 0x21 point slc received link) emergency parts
+          → parts ≡ cutAt known f → step ≡ orderStep known link (draft (COA received) point slc link) emergency parts
           → step ≡ askCOO plan links arriving fsn point slc f
       unfolding askCOO
       coo-ordered h known received emergency parts loads last eca cut e =
           names-one link (linkNamed plan point slc) is (order coa (λ r. cutAt r f)) step h
-          (ordered coa (λ r. cutAt r f) known (draft 0x21 point slc received link) emergency parts step loads
-          (ap (λ (n : ℕ). draft 0x21 point slc n link) last) eca cut e)
+          (ordered coa (λ r. cutAt r f) known (draft (COA received) point slc link) emergency parts step loads
+          (ap (λ (n : ℕ). draft (COA n) point slc link) last) eca cut e)
 
     -- ECO
     module _ (step : Step) where

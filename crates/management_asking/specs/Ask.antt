@@ -7,6 +7,7 @@ use Rattle.constants.specs.Constants.{noLink}
 use Rattle.plan.specs.declared.data.Plan.{Plan}
 use Rattle.area_links.specs.LinkRecords.{recordAt}
 use Rattle.lookup.specs.Lookup.{linkNamed}
+use Rattle.wire_messages.specs.declared.management.Message.the-variants.{COA, ECA}
 use Rattle.management_making.specs.declared.Draft.{Draft}
 use Rattle.changeover_cuts.specs.Cuts.{cutAt, cutUnknown}
 use Rattle.management_steps.specs.declared.Step.{Step}
@@ -18,7 +19,7 @@ lastReceived links arriving fsn link = cond (eqb link arriving) fsn (recordAt li
 
 -- "COO is answered with COA" (R123), "ECO is answered with ECA" (R128): neither uses the link (R132)
 unfoldable pub emergencyOf : ℕ → ℕ → ℕ → Draft
-emergencyOf point slc link = draft 0x22 point slc 0 link
+emergencyOf point slc link = draft ECA point slc link
 
 -- COO with number F (R119)
 unfoldable pub askCOO : Plan → List ℕ → ℕ → ℕ → ℕ → ℕ → ℕ → Step
@@ -26,7 +27,7 @@ askCOO plan links arriving fsn point slc f =
     let link = linkNamed plan point slc in
     let known = recordAt links link in
     cond (ltb link noLink)
-    (orderStep known link (draft 0x21 point slc (lastReceived links arriving fsn link) link) (emergencyOf point slc link) (cutAt known f))
+    (orderStep known link (draft (COA (lastReceived links arriving fsn link)) point slc link) (emergencyOf point slc link) (cutAt known f))
     nothing
 
 -- ECO

@@ -9,6 +9,7 @@ use management_steps::Step;
 use management_steps::ack_step;
 use management_steps::nothing;
 use management_steps::order_step;
+use wire_messages::management::Message;
 ghost use Rattle.plan_words.specs.Words.{planOf};
 ghost use mathlib.Core.Path.{_≡_};
 ghost use Rattle.management_asking.specs.Ask as Ask;
@@ -29,10 +30,9 @@ fn emergency_of(point: u16, slc: u8, link: u8) -> Draft
     ensures { λ r. ⌜ r ≡ Ask.emergencyOf point slc link ⌝ }
 {
     Draft {
-        heading: 0x22,
+        message: Message::ECA,
         point,
         slc,
-        field: 0,
         never: link,
     }
 }
@@ -54,10 +54,9 @@ pub fn ask_coo(
     }
     let known = load_link(links, link);
     let own = Draft {
-        heading: 0x21,
+        message: Message::COA(last_received(links, arriving, fsn, link)),
         point,
         slc,
-        field: last_received(links, arriving, fsn, link) as u16,
         never: link,
     };
     let emergency = emergency_of(point, slc, link);

@@ -34,7 +34,7 @@ module _ (plan : Plan) (links marks : List ℕ) (draft : Draft) (spans rings row
 
     -- with one it is queued there
     pub is-queued : path < 32 → (reply : ℕ) (spans′ rings′ rows′ arrivals′ : List ℕ)
-        → ManagementLeaves spans rings arrivals rows path (draft .heading) (draft .point) (draft .slc) (draft .field) reply spans′ rings′ rows′ arrivals′
+        → ManagementLeaves spans rings arrivals rows path (draft .message) (draft .point) (draft .slc) reply spans′ rings′ rows′ arrivals′
         → MakeLeaves (record { reply = reply; made = eqb reply 0 }) spans′ rings′ rows′ arrivals′
     unfolding replyOf isMade made
     is-queued h reply spans′ rings′ rows′ arrivals′ e =
@@ -56,5 +56,5 @@ refused-kept plan links marks draft now refused =
     (λ e.
     let lacks : eqb (managementReply (now .queues .spans) (now .arrivals)) 0 ≡ false = simp e at refused in
     simp e
-    (management-kept (pathOf plan links marks draft) (draft .heading) (draft .point) (draft .slc) (draft .field) now lacks))
+    (management-kept (pathOf plan links marks draft) (draft .message) (draft .point) (draft .slc) now lacks))
     (λ e. simp e)

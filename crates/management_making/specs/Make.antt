@@ -35,7 +35,7 @@ outcome plan links marks spans arrivals draft =
 unfoldable pub made : Plan → List ℕ → List ℕ → Draft → Held → Held
 made plan links marks draft now =
     cond (hasPath plan links marks draft)
-    (withManagement (pathOf plan links marks draft) (draft .heading) (draft .point) (draft .slc) (draft .field) now)
+    (withManagement (pathOf plan links marks draft) (draft .message) (draft .point) (draft .slc) now)
     now
 
 -- of all areas, those that hold messages

@@ -3,6 +3,7 @@ use constants::NO_LINK;
 use queue_joining::queue_management;
 use route_ways::for_management;
 use route_ways::way;
+use wire_messages::management::Message;
 ghost use Rattle.plan_words.specs.Words.{planOf};
 ghost use mathlib.Core.Path.{_≡_};
 ghost use Rattle.replies.specs.Areas.{old};
@@ -11,10 +12,9 @@ ghost use Rattle.management_making.specs.Make as Make;
 
 // What it says, where it goes, and the link that it never uses (32 where there is none).
 pub struct Draft {
-    pub heading: u8,
+    pub message: Message,
     pub point: u16,
     pub slc: u8,
-    pub field: u16,
     pub never: u8,
 }
 
@@ -46,16 +46,16 @@ pub fn make(
             made: false,
         };
     }
+    let message = draft.message;
     let reply = queue_management(
         spans,
         rings,
         rows,
         arrivals,
         path,
-        draft.heading,
+        message,
         draft.point,
         draft.slc,
-        draft.field,
     );
     Made {
         reply,

@@ -11,6 +11,7 @@ use Rattle.plan.specs.Find.{placeOf, isFound}
 use Rattle.lookup.specs.Lookup.{linkNamed, setTo}
 use Rattle.route_access.specs.Change.{isAccessible}
 use Rattle.route_current.specs.Current.{currentSet}
+use Rattle.wire_messages.specs.declared.management.Message.the-variants.{CBA, TFA}
 use Rattle.management_steps.specs.declared.Step.{Step}
 use Rattle.management_steps.specs.Step.{nothing, draft, answer}
 use Rattle.management_steps.proofs.Naming.{names-none, names-one}
@@ -20,11 +21,11 @@ use Rattle.management_requests.specs.Request.{askCBD, allows, askRST}
 module _ (plan : Plan) (point slc link : ℕ) (is : link ≡ linkNamed plan point slc) (code : ℕ) (step : Step) where
   pub cbd-of-none : 32 ≤ link → step ≡ nothing → step ≡ askCBD plan point slc code
   unfolding askCBD
-  cbd-of-none = names-none link (linkNamed plan point slc) is (λ l. answer (draft 0x61 point slc code 32)) step
+  cbd-of-none = names-none link (linkNamed plan point slc) is (λ l. answer (draft (CBA code) point slc 32)) step
 
-  pub cbd-answered : link < 32 → step ≡ answer (draft 0x61 point slc code 32) → step ≡ askCBD plan point slc code
+  pub cbd-answered : link < 32 → step ≡ answer (draft (CBA code) point slc 32) → step ≡ askCBD plan point slc code
   unfolding askCBD
-  cbd-answered = names-one link (linkNamed plan point slc) is (λ l. answer (draft 0x61 point slc code 32)) step
+  cbd-answered = names-one link (linkNamed plan point slc) is (λ l. answer (draft (CBA code) point slc 32)) step
 
 -- a route set test: from the set that asks, the place of the point asked about, its access and its current set
 module _ (plan : Plan) (links marks : List ℕ) (point x : ℕ) where
@@ -63,12 +64,12 @@ module _ (plan : Plan) (links marks : List ℕ) (point x : ℕ) where
 
   -- it is answered where it is allowed
   module _ (allowed : Bool) (is : allowed ≡ allows plan links marks point x) (step : Step) where
-    by-allowed : (said : Bool) → allowed ≡ said → step ≡ cond said (answer (draft 0x54 point 0 x 32)) nothing → step ≡ askRST plan links marks point x
+    by-allowed : (said : Bool) → allowed ≡ said → step ≡ cond said (answer (draft (TFA x) point 0 32)) nothing → step ≡ askRST plan links marks point x
     unfolding askRST
-    by-allowed said e f = f ∙ ap (λ (t : Bool). cond t (answer (draft 0x54 point 0 x 32)) nothing) (sym e ∙ is)
+    by-allowed said e f = f ∙ ap (λ (t : Bool). cond t (answer (draft (TFA x) point 0 32)) nothing) (sym e ∙ is)
 
     pub test-refused : allowed ≡ false → step ≡ nothing → step ≡ askRST plan links marks point x
     test-refused = by-allowed false
 
-    pub test-answered : allowed ≡ true → step ≡ answer (draft 0x54 point 0 x 32) → step ≡ askRST plan links marks point x
+    pub test-answered : allowed ≡ true → step ≡ answer (draft (TFA x) point 0 32) → step ≡ askRST plan links marks point x
     test-answered = by-allowed true

@@ -9,12 +9,13 @@ use Rattle.plan.specs.Find.{placeOf, isFound}
 use Rattle.lookup.specs.Lookup.{linkNamed, setTo}
 use Rattle.route_access.specs.Change.{isAccessible}
 use Rattle.route_current.specs.Current.{currentSet}
+use Rattle.wire_messages.specs.declared.management.Message.the-variants.{CBA, TFA}
 use Rattle.management_steps.specs.declared.Step.{Step}
 use Rattle.management_steps.specs.Step.{nothing, draft, answer}
 
 -- "CBD is answered with CBA, same code, in any state." (R156, R157)
 unfoldable pub askCBD : Plan → ℕ → ℕ → ℕ → Step
-askCBD plan point slc code = cond (ltb (linkNamed plan point slc) noLink) (answer (draft 0x61 point slc code noLink)) nothing
+askCBD plan point slc code = cond (ltb (linkNamed plan point slc) noLink) (answer (draft (CBA code) point slc noLink)) nothing
 
 -- "RST about X from an adjacent point is answered with TFA if X is configured and accessible and its current set isn't the
 -- asker's, else 11." (R154, R155)
@@ -26,4 +27,4 @@ allows plan links marks point x =
 
 -- the TFA goes back with SLC 0 (R7, R87)
 unfoldable pub askRST : Plan → List ℕ → List ℕ → ℕ → ℕ → Step
-askRST plan links marks point x = cond (allows plan links marks point x) (answer (draft 0x54 point 0 x noLink)) nothing
+askRST plan links marks point x = cond (allows plan links marks point x) (answer (draft (TFA x) point 0 noLink)) nothing

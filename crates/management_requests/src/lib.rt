@@ -9,6 +9,7 @@ use management_steps::nothing;
 use plan_words::find::find;
 use route_access::accessible;
 use route_current::current_set;
+use wire_messages::management::Message;
 ghost use Rattle.plan_words.specs.Words.{planOf};
 ghost use mathlib.Core.Path.{_≡_};
 ghost use Rattle.management_requests.specs.Request as Request;
@@ -20,10 +21,9 @@ pub fn ask_cbd(plan: &[u16; 1024], point: u16, slc: u8, code: u8) -> Step
         return nothing();
     }
     answer(Draft {
-        heading: 0x61,
+        message: Message::CBA(code),
         point,
         slc,
-        field: code as u16,
         never: NO_LINK,
     })
 }
@@ -59,10 +59,9 @@ pub fn ask_rst(
         return nothing();
     }
     answer(Draft {
-        heading: 0x54,
+        message: Message::TFA(x),
         point,
         slc: 0,
-        field: x,
         never: NO_LINK,
     })
 }

@@ -4,14 +4,16 @@ use mathlib.Core.Bool.{true, false, cond, _&&_}
 use lib.Dec.{eqb, ltb}
 use Rattle.constants.specs.Constants.{noLink, stateOut, stateWaiting}
 use Rattle.area_links.specs.declared.LinkRecord.{LinkRecord}
+use Rattle.wire_messages.specs.declared.management.Message.{Message}
+use Rattle.wire_messages.specs.declared.management.Message.the-variants.{ECO}
 use Rattle.management_making.specs.declared.Draft.{Draft}
 use Rattle.changeover_cuts.specs.declared.Cut.{Cut}
 use Rattle.changeover_cuts.specs.Cuts.{cutNone}
 use Rattle.management_steps.specs.declared.Step.{Step}
 
--- no message, and no link
+-- no message: some message, which is never made, and no link
 abbrev pub noDraft : Draft
-noDraft = record { heading = 0; point = 0; slc = 0; field = 0; never = noLink }
+noDraft = record { message = ECO; point = 0; slc = 0; never = noLink }
 
 -- row 11: "management message that names nothing, or fits no state" (R56)
 abbrev pub nothing : Step
@@ -30,9 +32,9 @@ answerAndEnd draft link parts =
 abbrev pub end : ℕ → Cut → Step
 end link parts = record { reply = 0; answers = false; draft = noDraft; ends = true; link = link; parts = parts }
 
--- an answer goes back to the point that asked, with its SLC: heading, point, SLC, field, and the link that it never uses
-abbrev pub draft : ℕ → ℕ → ℕ → ℕ → ℕ → Draft
-draft heading point slc field never = record { heading = heading; point = point; slc = slc; field = field; never = never }
+-- an answer goes back to the point that asked, with its SLC: the message, point, SLC, and the link that it never uses
+abbrev pub draft : Message → ℕ → ℕ → ℕ → Draft
+draft message point slc never = record { message = message; point = point; slc = slc; never = never }
 
 -- a COO or ECO on the link that it names: "On an out link either gets ECA only" (R130, R200); on a waiting link "COA or ECA, then as
 -- its failure" (R129); on an open or changing link it ends the changeover (R122)

@@ -7,6 +7,7 @@ use constants::NO_LINK;
 use constants::OUT;
 use constants::WAITING;
 use management_making::Draft;
+use wire_messages::management::Message;
 ghost use mathlib.Core.Path.{_≡_};
 ghost use Rattle.management_steps.specs.Step as Steps;
 
@@ -24,10 +25,9 @@ fn no_draft() -> Draft
     ensures { λ r. ⌜ r ≡ Steps.noDraft ⌝ }
 {
     Draft {
-        heading: 0,
+        message: Message::ECO,
         point: 0,
         slc: 0,
-        field: 0,
         never: NO_LINK,
     }
 }

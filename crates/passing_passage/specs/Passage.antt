@@ -9,13 +9,14 @@ use Rattle.plan.specs.declared.data.Plan.{Plan}
 use Rattle.plan.specs.Find.{placeOf, isFound}
 use Rattle.area_flags.specs.Flags.{flagAt, withFlag}
 use Rattle.wire.specs.declared.header.Label.{Label}
+use Rattle.wire_messages.specs.declared.management.Message.the-variants.{TFP}
 use Rattle.replies.specs.Areas.{Areas, areas}
 use Rattle.route_choice.specs.Which.{none}
 use Rattle.lookup.specs.Lookup.{adjacentOf}
 use Rattle.route_ways.specs.declared.Direction.{Direction}
 use Rattle.route_ways.specs.Way.{forUsers, wayOf}
 use Rattle.queue_heads.specs.Head.{both}
-use Rattle.queue_joining.specs.Queue.{userReply, userQueues, userRow, userOctets, userArrivals}
+use Rattle.queue_joining.specs.Queue.{userReply, userQueues, rowsWithUser, userOctets, userArrivals}
 use Rattle.management_making.specs.declared.Draft.{Draft}
 use Rattle.queue_moving.specs.Move.{apart}
 
@@ -48,7 +49,7 @@ unfoldable pub queued : Plan → Areas → Label → ℕ → Areas
 queued plan a label size =
     let queues = userQueues (both (a .spans) (a .rings)) (a .arrivals) (ringOf plan a label) in
     areas (a .links) (a .marks) (queues .spans) (queues .rings)
-    (userRow (both (a .spans) (a .rings)) (a .arrivals) (a .rows) (label .dpc) (label .sls) size)
+    (rowsWithUser (both (a .spans) (a .rings)) (a .arrivals) (a .rows) (label .dpc) (label .sls) size)
     (userArrivals (a .spans) (a .arrivals)) (a .reports)
 
 -- the octets with the message written
@@ -57,7 +58,7 @@ octetsQueued a octets message = userOctets (both (a .spans) (a .rings)) (a .arri
 
 -- the TFP "to that link's adjacent point" (R70, R87)
 unfoldable pub prohibitedTo : Plan → ℕ → ℕ → Draft
-prohibitedTo plan arriving x = record { heading = 0x14; point = adjacentOf plan arriving; slc = 0; field = x; never = noLink }
+prohibitedTo plan arriving x = record { message = TFP x; point = adjacentOf plan arriving; slc = 0; never = noLink }
 
 -- "unless T8 runs for the configured destination" (R71); "An unconfigured DPC makes none." (R73)
 unfoldable pub tells : Plan → List ℕ → ℕ → Bool

@@ -9,6 +9,7 @@ use lookup::adjacent_of;
 use management_making::Draft;
 use plan_words::find::find;
 use route_ways::Direction;
+use wire_messages::management::Message;
 ghost use Rattle.plan_words.specs.Words.{planOf};
 ghost use mathlib.Core.Path.{_≡_};
 ghost use Rattle.passing_passage.specs.Passage as Passage;
@@ -29,10 +30,9 @@ pub fn prohibited_to(plan: &[u16; 1024], arriving: u8, x: u16) -> Draft
     ensures { λ r. ⌜ r ≡ Passage.prohibitedTo (planOf plan) arriving x ⌝ }
 {
     Draft {
-        heading: 0x14,
+        message: Message::TFP(x),
         point: adjacent_of(plan, arriving),
         slc: 0,
-        field: x,
         never: NO_LINK,
     }
 }

@@ -12,7 +12,7 @@ use Rattle.plan.specs.declared.data.Plan.{Plan}
 use Rattle.plan.specs.declared.data.Destination.{Destination}
 use Rattle.plan.specs.declared.find.Found.{Found}
 use Rattle.plan.specs.declared.find.There.{There}
-use Rattle.plan.specs.Data.{noRoute, routesOf}
+use Rattle.plan.specs.Data.{absentRoute, routesOf}
 use Rattle.plan.specs.Find.{codeAt, halved, given, placeOf, isFound, thereOf}
 
 -- some halvings are left between two places, enough for them, and they lead where all seven do
@@ -82,7 +82,7 @@ module _ (plan : Plan) (code low count : ℕ) (all : count ≡ given plan) (foun
   stands-there h = simp (← place, lt-ltb low (given plan) (omega arith))
 
   pub stands-nowhere : count ≤ low
-      → _≡_ {A = There} (record { given = false; place = low; routes = replicate 4 noRoute }) (thereOf plan code)
+      → _≡_ {A = There} (record { given = false; place = low; routes = replicate 4 absentRoute }) (thereOf plan code)
   stands-nowhere h = simp (← place, le-ltb low (given plan) (omega arith))
 
 -- a destination that is found stands in the table

@@ -9,7 +9,7 @@ use Rattle.plan.specs.declared.data.Plan.{Plan}
 use Rattle.plan.specs.declared.data.LinkSet.{LinkSet}
 use Rattle.plan.specs.declared.data.Link.{Link}
 use Rattle.plan.specs.declared.data.Destination.{Destination}
-use Rattle.plan.specs.Data.{noSet, noLink, noDestination, emptySet, emptyDestination, emptyPlan, linkAt, linksOf}
+use Rattle.plan.specs.Data.{absentSet, absentLink, absentDestination, emptySet, emptyDestination, emptyPlan, linkAt, linksOf}
 use Rattle.plan.specs.Find.{codeAt, given}
 use Rattle.plan.specs.Sound.{Sound, linkIn}
 use Rattle.plan.proofs.Order.{Ascending}
@@ -21,22 +21,22 @@ first-links those = take (those .count) (those .links)
 
 -- the links of one set are in order, and agree with the table of links
 pub record Holds (links : List Link) (those : ℕ) (own : List ℕ) : Type 0 where
-  pub order : Ascending (λ i. getD links (getD own i 0) noLink .slc) (length own)
+  pub order : Ascending (λ i. getD links (getD own i 0) absentLink .slc) (length own)
   pub table : (i : ℕ) → i < length own → getD own i 0 < 32
-  pub present : (i : ℕ) → i < length own → getD links (getD own i 0) noLink .given ≡ true
-  pub belongs : (i : ℕ) → i < length own → getD links (getD own i 0) noLink .set ≡ those
+  pub present : (i : ℕ) → i < length own → getD links (getD own i 0) absentLink .given ≡ true
+  pub belongs : (i : ℕ) → i < length own → getD links (getD own i 0) absentLink .set ≡ those
 
 -- the sets and links of a sound plan
 pub record Linked (sets : List LinkSet) (links : List Link) : Type 0 where
   pub eight-sets : length sets ≡ 8
   pub all-links : length links ≡ 32
-  pub eight-places : (those : ℕ) → those < 8 → length (getD sets those noSet .links) ≡ 8
-  pub holds : (those : ℕ) → Holds links those (first-links (getD sets those noSet))
+  pub eight-places : (those : ℕ) → those < 8 → length (getD sets those absentSet .links) ≡ 8
+  pub holds : (those : ℕ) → Holds links those (first-links (getD sets those absentSet))
 
 -- the destinations of a sound plan
 pub record Listed (n : ℕ) (destinations : List Destination) : Type 0 where
   pub all-destinations : length destinations ≡ 64
-  pub four-ranks : (place : ℕ) → place < 64 → length (getD destinations place noDestination .routes) ≡ 4
+  pub four-ranks : (place : ℕ) → place < 64 → length (getD destinations place absentDestination .routes) ≡ 4
   pub ascending : Ascending (codeAt destinations) n
 
 module _ (plan : Plan) where
@@ -103,11 +103,11 @@ holds-none links those =
       belongs = λ i h. absurd (omega arith);
     }
 
-no-links-yet : (those : ℕ) → first-links (getD (replicate 8 emptySet) those noSet) ≡ []
+no-links-yet : (those : ℕ) → first-links (getD (replicate 8 emptySet) those absentSet) ≡ []
 no-links-yet those =
     split those 8
-    (λ h. ap first-links (getD-replicate 8 those emptySet noSet h))
-    (λ h. ap first-links (List·getD-eq-default (replicate 8 emptySet) noSet h))
+    (λ h. ap first-links (getD-replicate 8 those emptySet absentSet h))
+    (λ h. ap first-links (List·getD-eq-default (replicate 8 emptySet) absentSet h))
 
 pub empty-sound : Sound emptyPlan
 empty-sound =
@@ -115,11 +115,11 @@ empty-sound =
     (record {
       eight-sets = refl;
       all-links = refl;
-      eight-places = λ those h. ap (λ (set : LinkSet). length (set .links)) (getD-replicate 8 those emptySet noSet h);
+      eight-places = λ those h. ap (λ (set : LinkSet). length (set .links)) (getD-replicate 8 those emptySet absentSet h);
       holds = λ those. subst (Holds (emptyPlan .links) those) (sym (no-links-yet those)) (holds-none (emptyPlan .links) those);
     })
     (record {
       all-destinations = refl;
-      four-ranks = λ place h. ap (λ (d : Destination). length (d .routes)) (getD-replicate 64 place emptyDestination noDestination h);
+      four-ranks = λ place h. ap (λ (d : Destination). length (d .routes)) (getD-replicate 64 place emptyDestination absentDestination h);
       ascending = λ i j h k. absurd (omega arith);
     })

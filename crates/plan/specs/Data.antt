@@ -10,26 +10,26 @@ use Rattle.plan.specs.declared.data.Route.{Route}
 use Rattle.plan.specs.declared.data.Destination.{Destination}
 
 -- what stands past the end of a table: nothing given
-abbrev pub noSet : LinkSet
-noSet = record { given = false; adjacent = 0; count = 0; links = [] }
+abbrev pub absentSet : LinkSet
+absentSet = record { given = false; adjacent = 0; count = 0; links = [] }
 
-abbrev pub noLink : Link
-noLink = record { given = false; set = 0; slc = 0 }
+abbrev pub absentLink : Link
+absentLink = record { given = false; set = 0; slc = 0 }
 
-abbrev pub noRoute : Route
-noRoute = record { given = false; set = 0 }
+abbrev pub absentRoute : Route
+absentRoute = record { given = false; set = 0 }
 
-abbrev pub noDestination : Destination
-noDestination = record { code = 0; routes = [] }
+abbrev pub absentDestination : Destination
+absentDestination = record { code = 0; routes = [] }
 
 abbrev pub setAt : Plan → ℕ → LinkSet
-setAt plan number = getD (plan .sets) number noSet
+setAt plan number = getD (plan .sets) number absentSet
 
 abbrev pub linkAt : Plan → ℕ → Link
-linkAt plan number = getD (plan .links) number noLink
+linkAt plan number = getD (plan .links) number absentLink
 
 abbrev pub destinationAt : Plan → ℕ → Destination
-destinationAt plan place = getD (plan .destinations) place noDestination
+destinationAt plan place = getD (plan .destinations) place absentDestination
 
 -- "Links of a set stand in SLC order." (R76)
 abbrev pub linksOf : Plan → ℕ → List ℕ
@@ -44,7 +44,7 @@ abbrev pub emptySet : LinkSet
 emptySet = record { given = false; adjacent = 0; count = 0; links = replicate 8 0 }
 
 abbrev pub emptyDestination : Destination
-emptyDestination = record { code = 0; routes = replicate 4 noRoute }
+emptyDestination = record { code = 0; routes = replicate 4 absentRoute }
 
 -- the plan with nothing in it, and no node
 abbrev pub emptyPlan : Plan
@@ -55,6 +55,6 @@ emptyPlan =
       ni = 0;
       count = 0;
       sets = replicate 8 emptySet;
-      links = replicate 32 noLink;
+      links = replicate 32 absentLink;
       destinations = replicate 64 emptyDestination;
     }

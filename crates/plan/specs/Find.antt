@@ -7,11 +7,11 @@ use lib.Dec.{ltb, eqb}
 use Rattle.plan.specs.declared.data.Plan.{Plan}
 use Rattle.plan.specs.declared.data.Destination.{Destination}
 use Rattle.plan.specs.declared.find.There.{There}
-use Rattle.plan.specs.Data.{noDestination, noRoute, routesOf}
+use Rattle.plan.specs.Data.{absentDestination, absentRoute, routesOf}
 
 -- the code of the destination at a place
 abbrev pub codeAt : List Destination → ℕ → ℕ
-codeAt destinations place = getD destinations place noDestination .code
+codeAt destinations place = getD destinations place absentDestination .code
 
 -- the first place from `low` up to `high` whose code isn't below the given one, in so many halvings
 unfoldable pub halved : List Destination → ℕ → ℕ → ℕ → ℕ → ℕ
@@ -42,5 +42,5 @@ thereOf plan code =
     record {
       given = isFound plan code;
       place = placeOf plan code;
-      routes = cond (ltb (placeOf plan code) (given plan)) (routesOf plan (placeOf plan code)) (replicate 4 noRoute);
+      routes = cond (ltb (placeOf plan code) (given plan)) (routesOf plan (placeOf plan code)) (replicate 4 absentRoute);
     }

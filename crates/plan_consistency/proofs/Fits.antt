@@ -9,7 +9,7 @@ use Rattle.plan.specs.declared.data.Plan.{Plan}
 use Rattle.plan.specs.declared.data.Link.{Link}
 use Rattle.plan.specs.declared.data.LinkSet.{LinkSet}
 use Rattle.plan.specs.declared.data.Destination.{Destination}
-use Rattle.plan.specs.Data.{noSet, noLink, noRoute, emptySet, emptyPlan, setAt, linkAt, destinationAt}
+use Rattle.plan.specs.Data.{absentSet, absentLink, absentRoute, emptySet, emptyPlan, setAt, linkAt, destinationAt}
 use Rattle.plan.specs.Find.{given}
 use Rattle.plan.proofs.Sound.{first-links}
 use Rattle.plan.proofs.Split.{split}
@@ -23,16 +23,16 @@ pub record InSet (those : LinkSet) (link : ℕ) : Type 0 where
 
 -- sets with adjacent codes that are no two the same, and none our own
 pub record Apart (code : ℕ) (sets : List LinkSet) : Type 0 where
-  pub once : (s o : ℕ) → getD sets s noSet .given ≡ true → getD sets o noSet .given ≡ true
-      → getD sets s noSet .adjacent ≡ getD sets o noSet .adjacent → s ≡ o
-  pub not-ours : (s : ℕ) → getD sets s noSet .given ≡ true → getD sets s noSet .adjacent ≡ code → ⊥
+  pub once : (s o : ℕ) → getD sets s absentSet .given ≡ true → getD sets o absentSet .given ≡ true
+      → getD sets s absentSet .adjacent ≡ getD sets o absentSet .adjacent → s ≡ o
+  pub not-ours : (s : ℕ) → getD sets s absentSet .given ≡ true → getD sets s absentSet .adjacent ≡ code → ⊥
 
 -- a destination that isn't us, with routes by given sets, no two by the same
 pub record Served (code : ℕ) (sets : List LinkSet) (d : Destination) : Type 0 where
   pub other : d .code ≡ code → ⊥
-  pub by-given : (rank : ℕ) → getD (d .routes) rank noRoute .given ≡ true → getD sets (getD (d .routes) rank noRoute .set) noSet .given ≡ true
-  pub by-once : (rank second : ℕ) → getD (d .routes) rank noRoute .given ≡ true → getD (d .routes) second noRoute .given ≡ true
-      → getD (d .routes) rank noRoute .set ≡ getD (d .routes) second noRoute .set → rank ≡ second
+  pub by-given : (rank : ℕ) → getD (d .routes) rank absentRoute .given ≡ true → getD sets (getD (d .routes) rank absentRoute .set) absentSet .given ≡ true
+  pub by-once : (rank second : ℕ) → getD (d .routes) rank absentRoute .given ≡ true → getD (d .routes) second absentRoute .given ≡ true
+      → getD (d .routes) rank absentRoute .set ≡ getD (d .routes) second absentRoute .set → rank ≡ second
 
 pub record Fits (plan : Plan) : Type 0 where
   pub node-first : plan .given ≡ false → plan ≡ emptyPlan
@@ -52,10 +52,10 @@ pub node-alone : (plan : Plan) → plan .sets ≡ emptyPlan .sets → plan .link
     → (plan .given ≡ false → plan ≡ emptyPlan) → Fits plan
 node-alone plan no-sets no-links none node-first =
     let no-set : (s : ℕ) → setAt plan s .given ≡ true → ⊥ =
-    λ s e. false≢true (sym (ap (λ (sets : List LinkSet). getD sets s noSet .given) no-sets ∙ same-all 8 emptySet noSet (λ those. those .given ≡ false) refl refl s) ∙ e)
+    λ s e. false≢true (sym (ap (λ (sets : List LinkSet). getD sets s absentSet .given) no-sets ∙ same-all 8 emptySet absentSet (λ those. those .given ≡ false) refl refl s) ∙ e)
     in
     let no-link : (l : ℕ) → linkAt plan l .given ≡ true → ⊥ =
-    λ l e. false≢true (sym (ap (λ (links : List Link). getD links l noLink .given) no-links ∙ same-all 32 noLink noLink (λ link. link .given ≡ false) refl refl l) ∙ e)
+    λ l e. false≢true (sym (ap (λ (links : List Link). getD links l absentLink .given) no-links ∙ same-all 32 absentLink absentLink (λ link. link .given ≡ false) refl refl l) ∙ e)
     in
     record {
       node-first = node-first;
@@ -68,7 +68,7 @@ pub empty-fits : Fits emptyPlan
 empty-fits = node-alone emptyPlan refl refl refl (λ e. refl)
 
 -- sets that are still given still serve
-pub serves-still : (code : ℕ) (sets more : List LinkSet) → ((s : ℕ) → getD sets s noSet .given ≡ true → getD more s noSet .given ≡ true)
+pub serves-still : (code : ℕ) (sets more : List LinkSet) → ((s : ℕ) → getD sets s absentSet .given ≡ true → getD more s absentSet .given ≡ true)
     → (d : Destination) → Served code sets d → Served code more d
 serves-still code sets more still d served =
-    record { other = served .other; by-given = λ rank e. still (getD (d .routes) rank noRoute .set) (served .by-given rank e); by-once = served .by-once }
+    record { other = served .other; by-given = λ rank e. still (getD (d .routes) rank absentRoute .set) (served .by-given rank e); by-once = served .by-once }

@@ -9,7 +9,7 @@ use lib.Seq.{getD-take, length-take-le, getD-set-same, getD-set-other}
 use Rattle.plan.specs.declared.data.Plan.{Plan}
 use Rattle.plan.specs.declared.data.Link.{Link}
 use Rattle.plan.specs.declared.data.LinkSet.{LinkSet}
-use Rattle.plan.specs.Data.{noSet, noLink, setAt, linkAt, linksOf}
+use Rattle.plan.specs.Data.{absentSet, absentLink, setAt, linkAt, linksOf}
 use Rattle.plan.specs.Sound.{Sound}
 use Rattle.plan.proofs.Split.{split, alike}
 use Rattle.plan_repeats.specs.Taken.{lower}
@@ -56,34 +56,34 @@ module _ (plan : Plan) (sound : Sound plan) (fits : Fits plan) (number those slc
   abbrev links : List Link
   links = set (plan .links) number link
 
-  set-here : getD sets those noSet ≡ full
-  set-here = getD-set-same (plan .sets) those full noSet (omega (arith, sound .eight-sets))
+  set-here : getD sets those absentSet ≡ full
+  set-here = getD-set-same (plan .sets) those full absentSet (omega (arith, sound .eight-sets))
 
-  set-there : (s : ℕ) → (s ≡ those → ⊥) → getD sets s noSet ≡ setAt plan s
-  set-there s e = getD-set-other (plan .sets) those s full noSet e
+  set-there : (s : ℕ) → (s ≡ those → ⊥) → getD sets s absentSet ≡ setAt plan s
+  set-there s e = getD-set-other (plan .sets) those s full absentSet e
 
-  link-here : getD links number noLink ≡ link
-  link-here = getD-set-same (plan .links) number link noLink (omega (arith, sound .all-links))
+  link-here : getD links number absentLink ≡ link
+  link-here = getD-set-same (plan .links) number link absentLink (omega (arith, sound .all-links))
 
-  link-there : (l : ℕ) → (l ≡ number → ⊥) → getD links l noLink ≡ linkAt plan l
-  link-there l e = getD-set-other (plan .links) number l link noLink e
+  link-there : (l : ℕ) → (l ≡ number → ⊥) → getD links l absentLink ≡ linkAt plan l
+  link-there l e = getD-set-other (plan .links) number l link absentLink e
 
   -- each set is given as it was, and goes where it went
-  same-given : (s : ℕ) → getD sets s noSet .given ≡ setAt plan s .given
+  same-given : (s : ℕ) → getD sets s absentSet .given ≡ setAt plan s .given
   same-given s =
       alike s those
       (λ e.
-      ap (λ (n : ℕ). getD sets n noSet .given) e
+      ap (λ (n : ℕ). getD sets n absentSet .given) e
       ∙ ap (λ (t : LinkSet). t .given) set-here
       ∙ sym known
       ∙ ap (λ (n : ℕ). setAt plan n .given) (sym e))
       (λ e. ap (λ (t : LinkSet). t .given) (set-there s e))
 
-  same-adjacent : (s : ℕ) → getD sets s noSet .adjacent ≡ setAt plan s .adjacent
+  same-adjacent : (s : ℕ) → getD sets s absentSet .adjacent ≡ setAt plan s .adjacent
   same-adjacent s =
       alike s those
       (λ e.
-      ap (λ (n : ℕ). getD sets n noSet .adjacent) e
+      ap (λ (n : ℕ). getD sets n absentSet .adjacent) e
       ∙ ap (λ (t : LinkSet). t .adjacent) set-here
       ∙ ap (λ (n : ℕ). setAt plan n .adjacent) (sym e))
       (λ e. ap (λ (t : LinkSet). t .adjacent) (set-there s e))
@@ -99,30 +99,30 @@ module _ (plan : Plan) (sound : Sound plan) (fits : Fits plan) (number those slc
   few = omega (arith, size, many-parts (λ m. linkAt plan m .slc) 0 slc (linksOf plan those) (sound .slc-order those) .within)
 
   -- what stood in a set stands there still
-  stands-still : (l s : ℕ) → InSet (setAt plan s) l → InSet (getD sets s noSet) l
+  stands-still : (l s : ℕ) → InSet (setAt plan s) l → InSet (getD sets s absentSet) l
   stands-still l s old =
       alike s those
       (λ e.
       let old-there : InSet (setAt plan those) l = subst (λ (n : ℕ). InSet (setAt plan n) l) e old in
       let i : ℕ = old-there .place in
       let inside : i < count = omega (arith, size, old-there .within) in
-      subst (λ (n : ℕ). InSet (getD sets n noSet) l) (sym e)
+      subst (λ (n : ℕ). InSet (getD sets n absentSet) l) (sym e)
       (subst (λ (t : LinkSet). InSet t l) (sym set-here)
       (old-stands count (lower plan (linksOf plan those) slc) number (setAt plan those .adjacent) (setAt plan those .links) (sound .eight-places those in-sets) room few l i inside
       (sym (getD-take count (setAt plan those .links) i 0 inside) ∙ old-there .there))))
       (λ e. subst (λ (t : LinkSet). InSet t l) (sym (set-there s e)) old)
 
-  stands-each : (l : ℕ) → getD links l noLink .given ≡ true → InSet (getD sets (getD links l noLink .set) noSet) l
+  stands-each : (l : ℕ) → getD links l absentLink .given ≡ true → InSet (getD sets (getD links l absentLink .set) absentSet) l
   stands-each l e =
       alike l number
       (λ same.
-      subst (λ (n : ℕ). InSet (getD sets (getD links n noLink .set) noSet) n) (sym same)
-      (subst (λ (entry : Link). InSet (getD sets (entry .set) noSet) number) (sym link-here)
+      subst (λ (n : ℕ). InSet (getD sets (getD links n absentLink .set) absentSet) n) (sym same)
+      (subst (λ (entry : Link). InSet (getD sets (entry .set) absentSet) number) (sym link-here)
       (subst (λ (t : LinkSet). InSet t number) (sym set-here)
       (new-stands count (lower plan (linksOf plan those) slc) number (setAt plan those .adjacent) (setAt plan those .links) (sound .eight-places those in-sets) room few))))
       (λ differs.
       let as-it-was = link-there l differs in
-      subst (λ (entry : Link). InSet (getD sets (entry .set) noSet) l) (sym as-it-was)
+      subst (λ (entry : Link). InSet (getD sets (entry .set) absentSet) l) (sym as-it-was)
       (stands-still l (linkAt plan l .set) (fits .standing l (ap (λ (entry : Link). entry .given) (sym as-it-was) ∙ e))))
 
   pub link-fits : Fits (withLink plan number those slc (linksWith plan number those slc))

@@ -8,7 +8,7 @@ use lib.Dec.{ltb, leb, eqb}
 use lib.ListN.{getD}
 use borrow.Author.Tests.{ltb-false, leb-false, eqb-false}
 use Rattle.plan.specs.declared.data.Plan.{Plan}
-use Rattle.plan.specs.Data.{noRoute, setAt, linkAt, linksOf, routesOf}
+use Rattle.plan.specs.Data.{absentRoute, setAt, linkAt, linksOf, routesOf}
 use Rattle.plan.specs.Find.{placeOf, isFound}
 use Rattle.plan.specs.Sound.{Sound, linkIn}
 use Rattle.plan.proofs.Split.{split, both-false}
@@ -81,7 +81,7 @@ module _ (plan : Plan) (sound : Sound plan) (fits : Fits plan) where
       (λ free.
       put-in Fits _
       (known-fits plan sound fits destination those rank (omega arith) (has refl) known differs found
-      (both-false (setTaken (routesOf plan place) those) (getD (routesOf plan place) rank noRoute .given) free .0))))
+      (both-false (setTaken (routesOf plan place) those) (getD (routesOf plan place) rank absentRoute .given) free .0))))
       (λ missing. choose Fits (leb 64 (plan .count)) _ _ (λ full. told 24)
       (λ room. put-in Fits _ (new-fits plan sound fits destination those rank (omega arith) (has refl) known differs (leb-false 64 (plan .count) room)))))))
   by-word Other has a b c = told 20

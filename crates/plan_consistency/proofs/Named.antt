@@ -10,7 +10,7 @@ use lib.Seq.{getD-take}
 use borrow.Author.Tests.{lt-ltb, eq-eqb, eqb-true}
 use borrow.Table.Steps.{cases}
 use Rattle.plan.specs.declared.data.Plan.{Plan}
-use Rattle.plan.specs.Data.{noLink, setAt, linkAt, linksOf}
+use Rattle.plan.specs.Data.{absentLink, setAt, linkAt, linksOf}
 use Rattle.plan.specs.Sound.{Sound, linkIn}
 use Rattle.plan_configuration.specs.Configure.{configured}
 use Rattle.plan_configuration.proofs.Made.{configured-sound}
@@ -116,7 +116,7 @@ module _ (plan : Plan) (sound : Sound plan) (consistent : Consistent plan) where
       (λ no.
       absurd
       (false≢true
-      (sym (ap (λ (p : Plan). linkAt p link .given) (consistent .node-first no) ∙ same-all 32 noLink noLink (λ entry. entry .given ≡ false) refl refl link) ∙ e)))
+      (sym (ap (λ (p : Plan). linkAt p link .given) (consistent .node-first no) ∙ same-all 32 absentLink absentLink (λ entry. entry .given ≡ false) refl refl link) ∙ e)))
 
   pub names-exactly : NamesExactly plan
   unfolding isLink

@@ -10,7 +10,7 @@ use lib.Seq.{getD-set-same, getD-set-other}
 use borrow.Author.Tests.{ltb-false, leb-false}
 use Rattle.plan.specs.declared.data.Plan.{Plan}
 use Rattle.plan.specs.declared.data.Destination.{Destination}
-use Rattle.plan.specs.Data.{noSet, noLink, noRoute, noDestination, emptySet, emptyDestination, emptyPlan, setAt, linkAt, linksOf, routesOf}
+use Rattle.plan.specs.Data.{absentSet, absentLink, absentRoute, absentDestination, emptySet, emptyDestination, emptyPlan, setAt, linkAt, linksOf, routesOf}
 use Rattle.plan.specs.Find.{placeOf, isFound}
 use Rattle.plan.specs.Sound.{Sound}
 use Rattle.plan.proofs.Found.{parted, found-stands}
@@ -38,21 +38,21 @@ set-each P values i value none inside new old j =
     (λ e. subst P (sym (getD-set-other values i j value none e)) (old j))
 
 -- and with the new one put in among them
-inserted-all : (P : Destination → Type 0) (values : List Destination) (place : ℕ) (value : Destination) → length values ≡ 64 → place ≤ 63 → P value → P noDestination
-    → ((j : ℕ) → P (getD values j noDestination)) → (j : ℕ) → P (getD (inserted place value values) j noDestination)
+inserted-all : (P : Destination → Type 0) (values : List Destination) (place : ℕ) (value : Destination) → length values ≡ 64 → place ≤ 63 → P value → P absentDestination
+    → ((j : ℕ) → P (getD values j absentDestination)) → (j : ℕ) → P (getD (inserted place value values) j absentDestination)
 inserted-all P values place value whole within new past old j =
     split j 64
-    (λ h. inserted-each noDestination values 63 place value (omega arith) within P new (λ i k. old i) j (omega arith))
-    (λ h. subst P (sym (List·getD-eq-default (inserted place value values) noDestination {n = j} (omega (arith, inserted-length place value values)))) past)
+    (λ h. inserted-each absentDestination values 63 place value (omega arith) within P new (λ i k. old i) j (omega arith))
+    (λ h. subst P (sym (List·getD-eq-default (inserted place value values) absentDestination {n = j} (omega (arith, inserted-length place value values)))) past)
 
 empty-range : InRange emptyPlan
 empty-range =
     record {
       code-range = omega arith;
       ni-range = omega arith;
-      adjacent-range = same-all 8 emptySet noSet (λ those. those .adjacent ≤ 16383) (omega arith) (omega arith);
-      slc-range = same-all 32 noLink noLink (λ link. link .slc ≤ 15) (omega arith) (omega arith);
-      destination-range = same-all 64 emptyDestination noDestination (λ d. d .code ≤ 16383) (omega arith) (omega arith);
+      adjacent-range = same-all 8 emptySet absentSet (λ those. those .adjacent ≤ 16383) (omega arith) (omega arith);
+      slc-range = same-all 32 absentLink absentLink (λ link. link .slc ≤ 15) (omega arith) (omega arith);
+      destination-range = same-all 64 emptyDestination absentDestination (λ d. d .code ≤ 16383) (omega arith) (omega arith);
     }
 
 module _ (plan : Plan) (sound : Sound plan) (range : InRange plan) where
@@ -86,7 +86,7 @@ module _ (plan : Plan) (sound : Sound plan) (range : InRange plan) where
         code-range = range .code-range;
         ni-range = range .ni-range;
         adjacent-range =
-            set-each (λ those. those .adjacent ≤ 16383) (plan .sets) number (newSet adjacent) noSet (omega (arith, sound .eight-sets))
+            set-each (λ those. those .adjacent ≤ 16383) (plan .sets) number (newSet adjacent) absentSet (omega (arith, sound .eight-sets))
             (ltb-false 16383 adjacent (within .1))
             (range .adjacent-range);
         slc-range = range .slc-range;
@@ -107,9 +107,9 @@ module _ (plan : Plan) (sound : Sound plan) (range : InRange plan) where
       (record {
         code-range = range .code-range;
         ni-range = range .ni-range;
-        adjacent-range = set-each (λ s. s .adjacent ≤ 16383) (plan .sets) those _ noSet (omega (arith, sound .eight-sets)) (range .adjacent-range those) (range .adjacent-range);
+        adjacent-range = set-each (λ s. s .adjacent ≤ 16383) (plan .sets) those _ absentSet (omega (arith, sound .eight-sets)) (range .adjacent-range those) (range .adjacent-range);
         slc-range =
-            set-each (λ link. link .slc ≤ 15) (plan .links) number (record { given = true; set = those; slc = slc }) noLink (omega (arith, sound .all-links))
+            set-each (λ link. link .slc ≤ 15) (plan .links) number (record { given = true; set = those; slc = slc }) absentLink (omega (arith, sound .all-links))
             (ltb-false 15 slc (others .1))
             (range .slc-range);
         destination-range = range .destination-range;
@@ -131,7 +131,7 @@ module _ (plan : Plan) (sound : Sound plan) (range : InRange plan) where
         adjacent-range = range .adjacent-range;
         slc-range = range .slc-range;
         destination-range =
-            (set-each (λ d. d .code ≤ 16383) (plan .destinations) place (record { code = destination; routes = withRoute (routesOf plan place) those rank }) noDestination
+            (set-each (λ d. d .code ≤ 16383) (plan .destinations) place (record { code = destination; routes = withRoute (routesOf plan place) those rank }) absentDestination
             (omega (arith, sound .all-destinations, found-stands plan sound destination found .within))
             code
             (range .destination-range));
@@ -146,7 +146,7 @@ module _ (plan : Plan) (sound : Sound plan) (range : InRange plan) where
         adjacent-range = range .adjacent-range;
         slc-range = range .slc-range;
         destination-range =
-            (inserted-all (λ d. d .code ≤ 16383) (plan .destinations) place (record { code = destination; routes = withRoute (replicate 4 noRoute) those rank }) (sound .all-destinations)
+            (inserted-all (λ d. d .code ≤ 16383) (plan .destinations) place (record { code = destination; routes = withRoute (replicate 4 absentRoute) those rank }) (sound .all-destinations)
             (omega (arith, parted plan sound destination .within))
             code
             (omega arith)

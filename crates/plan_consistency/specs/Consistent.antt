@@ -6,14 +6,14 @@ use mathlib.Core.Logic.{_↔_}
 use lib.ListN.{length, getD}
 use Rattle.plan.specs.declared.data.Plan.{Plan}
 use Rattle.plan.specs.declared.data.Route.{Route}
-use Rattle.plan.specs.Data.{noRoute, emptyPlan, setAt, linkAt, linksOf, routesOf}
+use Rattle.plan.specs.Data.{absentRoute, emptyPlan, setAt, linkAt, linksOf, routesOf}
 use Rattle.plan.specs.Find.{codeAt, given}
 use Rattle.plan.specs.Sound.{linkIn}
 use Rattle.lookup.specs.Lookup.{linkNamed, isLink, slcOf, adjacentOf}
 
 -- the route of a rank
 abbrev pub routeAt : Plan → ℕ → ℕ → Route
-routeAt plan destination rank = getD (routesOf plan destination) rank noRoute
+routeAt plan destination rank = getD (routesOf plan destination) rank absentRoute
 
 -- a link stands at a place of its set, and the set is given (R76, R168)
 pub record InItsSet (plan : Plan) (link : ℕ) : Type 0 where

@@ -9,7 +9,7 @@ use lib.Seq.{getD-take, length-take-le}
 use borrow.Table.Steps.{cases}
 use Rattle.plan.specs.declared.data.Plan.{Plan}
 use Rattle.plan.specs.declared.data.Destination.{Destination}
-use Rattle.plan.specs.Data.{noDestination, destinationAt}
+use Rattle.plan.specs.Data.{absentDestination, destinationAt}
 use Rattle.plan.specs.Find.{given, placeOf, isFound}
 use Rattle.plan.specs.Sound.{Sound}
 use Rattle.plan.proofs.Found.{found-stands, stands-found}
@@ -33,8 +33,8 @@ module _ (plan : Plan) (sound : Sound plan) (code : ℕ) (test : Destination →
   size : length (destinationsOf plan) ≡ given plan
   size = length-take-le (given plan) (plan .destinations) (omega (arith, sound .all-destinations))
 
-  at : (i : ℕ) → i < given plan → getD (destinationsOf plan) i noDestination ≡ destinationAt plan i
-  at i h = getD-take (given plan) (plan .destinations) i noDestination h
+  at : (i : ℕ) → i < given plan → getD (destinationsOf plan) i absentDestination ≡ destinationAt plan i
+  at i h = getD-take (given plan) (plan .destinations) i absentDestination h
 
   -- one that passes has the code, and so is found there
   passes-found : (i : ℕ) → i < given plan → test (destinationAt plan i) ≡ true → (isFound plan code ≡ true) × (placeOf plan code ≡ i)
@@ -45,9 +45,9 @@ module _ (plan : Plan) (sound : Sound plan) (code : ℕ) (test : Destination →
       let place = placeOf plan code in
       let within : place < given plan = found-stands plan sound code found .within in
       cases (test (destinationAt plan place))
-      (λ yes. one-passes test noDestination (destinationsOf plan) place (omega (arith, size)) (ap test (at place within) ∙ yes) ∙ sym yes)
+      (λ yes. one-passes test absentDestination (destinationsOf plan) place (omega (arith, size)) (ap test (at place within) ∙ yes) ∙ sym yes)
       (λ no.
-      each-fails test noDestination (destinationsOf plan)
+      each-fails test absentDestination (destinationsOf plan)
       (λ i h.
       let inside : i < given plan = omega (arith, size) in
       cases (test (destinationAt plan i))
@@ -57,7 +57,7 @@ module _ (plan : Plan) (sound : Sound plan) (code : ℕ) (test : Destination →
 
   pub missing-one : isFound plan code ≡ false → one test (destinationsOf plan) ≡ false
   missing-one missing =
-      each-fails test noDestination (destinationsOf plan)
+      each-fails test absentDestination (destinationsOf plan)
       (λ i h.
       let inside : i < given plan = omega (arith, size) in
       cases (test (destinationAt plan i))

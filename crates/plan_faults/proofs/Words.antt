@@ -11,7 +11,7 @@ use borrow.Table.Steps.{cases}
 use Rattle.plan.specs.declared.data.Plan.{Plan}
 use Rattle.plan.specs.declared.data.LinkSet.{LinkSet}
 use Rattle.plan.specs.declared.data.Destination.{Destination}
-use Rattle.plan.specs.Data.{noSet, noRoute, setAt, routesOf, destinationAt}
+use Rattle.plan.specs.Data.{absentSet, absentRoute, setAt, routesOf, destinationAt}
 use Rattle.plan.specs.Find.{given, placeOf, isFound}
 use Rattle.plan.specs.Sound.{Sound}
 use Rattle.plan.proofs.Split.{split}
@@ -93,8 +93,8 @@ set-full plan sound those =
     split those 8
     (λ h. full-by-count (s .count) 8 (s .links) (sound .eight-places those h))
     (λ h.
-    ap (λ (one : LinkSet). leb 8 (one .count)) (List·getD-eq-default (plan .sets) noSet {n = those} (omega (arith, sound .eight-sets)))
-    ∙ sym (ap (λ (one : LinkSet). leb 8 (length (take (one .count) (one .links)))) (List·getD-eq-default (plan .sets) noSet {n = those} (omega (arith, sound .eight-sets)))))
+    ap (λ (one : LinkSet). leb 8 (one .count)) (List·getD-eq-default (plan .sets) absentSet {n = those} (omega (arith, sound .eight-sets)))
+    ∙ sym (ap (λ (one : LinkSet). leb 8 (length (take (one .count) (one .links)))) (List·getD-eq-default (plan .sets) absentSet {n = those} (omega (arith, sound .eight-sets)))))
 
 destinations-full : (plan : Plan) → Sound plan → leb 64 (plan .count) ≡ leb 64 (length (destinationsOf plan))
 destinations-full plan sound =
@@ -155,8 +155,8 @@ module _ (plan : Plan) (sound : Sound plan) (code : ℕ) where
       let rows : Bool → Bool → Bool → Bool → List Row =
       λ by-set of-rank found full. row 21 (ltb 16383 code) ∷ row 21 (ltb 7 b) ∷ row 21 (ltb 3 c) ∷ row 23 (not (setGiven plan b)) ∷ row 22 (isOurs plan code) ∷ row 22 by-set ∷ row 22 of-rank ∷ row 24 (not found && full) ∷ []
       in
-      route-order plan _ _ (ltb 16383 code) (ltb 7 b) (ltb 3 c) (not (setGiven plan b)) (isOurs plan code) (isFound plan code) (setTaken routes b) (getD routes c noRoute .given) (leb 64 (plan .count))
-      ∙ ap (λ (t : Bool). first (rows t (isFound plan code && getD routes c noRoute .given) (isFound plan code) (leb 64 (plan .count)))) (sym (by-search (λ d. setTaken (d .routes) b)))
-      ∙ ap (λ (t : Bool). first (rows (routeBySet plan code b) t (isFound plan code) (leb 64 (plan .count)))) (sym (by-search (λ d. getD (d .routes) c noRoute .given)))
+      route-order plan _ _ (ltb 16383 code) (ltb 7 b) (ltb 3 c) (not (setGiven plan b)) (isOurs plan code) (isFound plan code) (setTaken routes b) (getD routes c absentRoute .given) (leb 64 (plan .count))
+      ∙ ap (λ (t : Bool). first (rows t (isFound plan code && getD routes c absentRoute .given) (isFound plan code) (leb 64 (plan .count)))) (sym (by-search (λ d. setTaken (d .routes) b)))
+      ∙ ap (λ (t : Bool). first (rows (routeBySet plan code b) t (isFound plan code) (leb 64 (plan .count)))) (sym (by-search (λ d. getD (d .routes) c absentRoute .given)))
       ∙ ap (λ (t : Bool). first (rows (routeBySet plan code b) (routeOfRank plan code c) t (leb 64 (plan .count)))) (sym is-given)
       ∙ ap (λ (t : Bool). first (rows (routeBySet plan code b) (routeOfRank plan code c) (destinationGiven plan code) t)) (destinations-full plan sound)

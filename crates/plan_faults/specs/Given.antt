@@ -6,7 +6,7 @@ use lib.ListN.{length, getD, take}
 use lib.Dec.{eqb, leb}
 use Rattle.plan.specs.declared.data.Plan.{Plan}
 use Rattle.plan.specs.declared.data.Destination.{Destination}
-use Rattle.plan.specs.Data.{noRoute, setAt, linkAt, linksOf}
+use Rattle.plan.specs.Data.{absentRoute, setAt, linkAt, linksOf}
 use Rattle.plan.specs.Find.{given}
 use Rattle.plan_repeats.specs.Search.{one}
 use Rattle.plan_repeats.specs.Taken.{adjacentTaken, slcTaken, setTaken}
@@ -53,7 +53,7 @@ routeBySet plan code those = one (λ (d : Destination). eqb (d .code) code && se
 
 -- the one with that code has a route of that rank
 abbrev pub routeOfRank : Plan → ℕ → ℕ → Bool
-routeOfRank plan code rank = one (λ (d : Destination). eqb (d .code) code && getD (d .routes) rank noRoute .given) (destinationsOf plan)
+routeOfRank plan code rank = one (λ (d : Destination). eqb (d .code) code && getD (d .routes) rank absentRoute .given) (destinationsOf plan)
 
 -- 64 destinations are given, and the code is that of none
 abbrev pub destinationsFull : Plan → ℕ → Bool

@@ -9,7 +9,7 @@ use lib.ListN.{length, getD, set, take}
 use lib.Seq.{getD-take, getD-set-same, getD-set-other, length-take-le}
 use borrow.Author.Tests.{eqb-false}
 use Rattle.plan.specs.declared.data.Link.{Link}
-use Rattle.plan.specs.Data.{noLink}
+use Rattle.plan.specs.Data.{absentLink}
 use Rattle.plan_entries.specs.Insert.{inserted}
 use Rattle.plan_repeats.specs.Search.{one, many}
 use Rattle.plan_entries.proofs.Inserted.{inserted-length}
@@ -20,12 +20,12 @@ use Rattle.plan_repeats.proofs.Searches.{none-passes}
 use Rattle.plan.proofs.Sound.{Holds}
 
 -- a link that wasn't given stands in no set, so that its entry may change
-module _ (links : List Link) (number : ℕ) (link : Link) (absent : getD links number noLink .given ≡ false) where
+module _ (links : List Link) (number : ℕ) (link : Link) (absent : getD links number absentLink .given ≡ false) where
   other-link : (those : ℕ) (own : List ℕ) → Holds links those own → (i : ℕ) → i < length own
-      → getD (set links number link) (getD own i 0) noLink ≡ getD links (getD own i 0) noLink
+      → getD (set links number link) (getD own i 0) absentLink ≡ getD links (getD own i 0) absentLink
   other-link those own holds i h =
-      getD-set-other links number (getD own i 0) link noLink
-      (λ same. false≢true (sym absent ∙ ap (λ (n : ℕ). getD links n noLink .given) (sym same) ∙ holds .present i h))
+      getD-set-other links number (getD own i 0) link absentLink
+      (λ same. false≢true (sym absent ∙ ap (λ (n : ℕ). getD links n absentLink .given) (sym same) ∙ holds .present i h))
 
   pub holds-still : (those : ℕ) (own : List ℕ) → Holds links those own → Holds (set links number link) those own
   holds-still those own holds =
@@ -40,9 +40,9 @@ module _ (links : List Link) (number : ℕ) (link : Link) (absent : getD links n
 -- a link more among those of its set, behind those of a lower SLC
 module _ (links : List Link) (those number slc n : ℕ) (places : List ℕ)
     (whole : length links ≡ 32) (eight : length places ≡ 8) (in-range : number < 32) (room : n < 8)
-    (absent : getD links number noLink .given ≡ false)
+    (absent : getD links number absentLink .given ≡ false)
     (holds : Holds links those (take n places))
-    (new-slc : one (λ (link : ℕ). eqb (getD links link noLink .slc) slc) (take n places) ≡ false) where
+    (new-slc : one (λ (link : ℕ). eqb (getD links link absentLink .slc) slc) (take n places) ≡ false) where
   abbrev link : Link
   link = record { given = true; set = those; slc = slc }
 
@@ -50,13 +50,13 @@ module _ (links : List Link) (those number slc n : ℕ) (places : List ℕ)
   next = set links number link
 
   abbrev lower : ℕ
-  lower = many (λ (m : ℕ). ltb (getD links m noLink .slc) slc) (take n places)
+  lower = many (λ (m : ℕ). ltb (getD links m absentLink .slc) slc) (take n places)
 
   abbrev key : ℕ → ℕ
-  key m = getD next m noLink .slc
+  key m = getD next m absentLink .slc
 
-  entry : getD next number noLink ≡ link
-  entry = getD-set-same links number link noLink (omega arith)
+  entry : getD next number absentLink ≡ link
+  entry = getD-set-same links number link absentLink (omega arith)
 
   size : length (take n places) ≡ n
   size = length-take-le n places (omega arith)
@@ -68,7 +68,7 @@ module _ (links : List Link) (those number slc n : ℕ) (places : List ℕ)
   old i h = getD-take n places i 0 h
 
   -- the SLCs are as they were
-  same-slc : (i : ℕ) → i < n → getD links (getD (take n places) i 0) noLink .slc ≡ key (getD places i 0)
+  same-slc : (i : ℕ) → i < n → getD links (getD (take n places) i 0) absentLink .slc ≡ key (getD places i 0)
   same-slc i h =
       sym (ap (λ (l : Link). l .slc) (other-link links number link absent those (take n places) holds i (omega (arith, size))))
       ∙ ap key (old i h)
@@ -76,14 +76,14 @@ module _ (links : List Link) (those number slc n : ℕ) (places : List ℕ)
   parted : Parts (λ i. key (getD places i 0)) n (key number) lower
   parted =
       let own-slc : slc ≡ key number = ap (λ (l : Link). l .slc) (sym entry) in
-      let before = many-parts (λ m. getD links m noLink .slc) 0 slc (take n places) (holds .order) in
-      parts-same (λ i. getD links (getD (take n places) i 0) noLink .slc) (λ i. key (getD places i 0)) n (key number) lower same-slc
-      (subst (λ (x : ℕ). Parts (λ i. getD links (getD (take n places) i 0) noLink .slc) n x lower) own-slc
-      (subst (λ (m : ℕ). Parts (λ i. getD links (getD (take n places) i 0) noLink .slc) m slc lower) size before))
+      let before = many-parts (λ m. getD links m absentLink .slc) 0 slc (take n places) (holds .order) in
+      parts-same (λ i. getD links (getD (take n places) i 0) absentLink .slc) (λ i. key (getD places i 0)) n (key number) lower same-slc
+      (subst (λ (x : ℕ). Parts (λ i. getD links (getD (take n places) i 0) absentLink .slc) n x lower) own-slc
+      (subst (λ (m : ℕ). Parts (λ i. getD links (getD (take n places) i 0) absentLink .slc) m slc lower) size before))
 
   fresh : (i : ℕ) → i < n → key (getD places i 0) ≡ key number → ⊥
   fresh i h same =
-      eqb-false _ _ (none-passes (λ (m : ℕ). eqb (getD links m noLink .slc) slc) 0 (take n places) new-slc i (omega (arith, size)))
+      eqb-false _ _ (none-passes (λ (m : ℕ). eqb (getD links m absentLink .slc) slc) 0 (take n places) new-slc i (omega (arith, size)))
       (same-slc i h ∙ same ∙ ap (λ (l : Link). l .slc) entry)
 
   order : Ascending (λ i. key (getD places i 0)) n
@@ -117,6 +117,6 @@ module _ (links : List Link) (those number slc n : ℕ) (places : List ℕ)
               inserted-ascending 0 places n lower number (omega arith) (parted .within) key order parted fresh i j h (omega (arith, long)),
             );
         table = each (λ m. m < 32) in-range (still .table);
-        present = each (λ m. getD next m noLink .given ≡ true) (ap (λ (l : Link). l .given) entry) (still .present);
-        belongs = each (λ m. getD next m noLink .set ≡ those) (ap (λ (l : Link). l .set) entry) (still .belongs);
+        present = each (λ m. getD next m absentLink .given ≡ true) (ap (λ (l : Link). l .given) entry) (still .present);
+        belongs = each (λ m. getD next m absentLink .set ≡ those) (ap (λ (l : Link). l .set) entry) (still .belongs);
       }

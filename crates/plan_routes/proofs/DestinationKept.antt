@@ -6,7 +6,7 @@ use native.Mathlib.Omega.{arith}
 use lib.ListN.{length, getD, set, length-set}
 use lib.Seq.{getD-set-same, getD-set-other}
 use Rattle.plan.specs.declared.data.Destination.{Destination}
-use Rattle.plan.specs.Data.{noDestination}
+use Rattle.plan.specs.Data.{absentDestination}
 use Rattle.plan.specs.Find.{codeAt}
 use Rattle.plan_entries.specs.Insert.{inserted}
 use Rattle.plan_entries.proofs.Inserted.{inserted-length}
@@ -19,14 +19,14 @@ module _ (n : ℕ) (destinations : List Destination) (place : ℕ) (next : Desti
   -- another destination of the same code in its place
   pub known-listed : place < 64 → codeAt destinations place ≡ next .code → Listed n (set destinations place next)
   known-listed inside same =
-      let there : getD (set destinations place next) place noDestination ≡ next =
-      getD-set-same destinations place next noDestination (omega (arith, listed .all-destinations))
+      let there : getD (set destinations place next) place absentDestination ≡ next =
+      getD-set-same destinations place next absentDestination (omega (arith, listed .all-destinations))
       in
       let code : (i : ℕ) → codeAt (set destinations place next) i ≡ codeAt destinations i =
       λ i.
       alike i place
       (λ e. ap (codeAt (set destinations place next)) e ∙ ap (λ (d : Destination). d .code) there ∙ sym same ∙ ap (codeAt destinations) (sym e))
-      (λ e. ap (λ (d : Destination). d .code) (getD-set-other destinations place i next noDestination e))
+      (λ e. ap (λ (d : Destination). d .code) (getD-set-other destinations place i next absentDestination e))
       in
       record {
         all-destinations = length-set destinations place next ∙ listed .all-destinations;
@@ -34,11 +34,11 @@ module _ (n : ℕ) (destinations : List Destination) (place : ℕ) (next : Desti
             λ i h.
             alike i place
             (λ e.
-            ap (λ (m : ℕ). length (getD (set destinations place next) m noDestination .routes)) e
+            ap (λ (m : ℕ). length (getD (set destinations place next) m absentDestination .routes)) e
             ∙ ap (λ (d : Destination). length (d .routes)) there
             ∙ four)
             (λ e.
-            ap (λ (d : Destination). length (d .routes)) (getD-set-other destinations place i next noDestination e)
+            ap (λ (d : Destination). length (d .routes)) (getD-set-other destinations place i next absentDestination e)
             ∙ listed .four-ranks i h);
         ascending = λ i j h k. omega (arith, code i, code j, listed .ascending i j h k);
       }
@@ -53,12 +53,12 @@ module _ (n : ℕ) (destinations : List Destination) (place : ℕ) (next : Desti
         all-destinations = inserted-length place next destinations ∙ whole;
         four-ranks =
             λ i h.
-            inserted-each noDestination destinations 63 place next (omega (arith, whole)) (omega (arith, parts .within))
+            inserted-each absentDestination destinations 63 place next (omega (arith, whole)) (omega (arith, parts .within))
             (λ d. length (d .routes) ≡ 4)
             four
             (λ m k. listed .four-ranks m (omega arith))
             i
             (omega arith);
         ascending =
-            inserted-ascending noDestination destinations n place next (omega (arith, whole)) (parts .within) (λ d. d .code) (listed .ascending) parts fresh;
+            inserted-ascending absentDestination destinations n place next (omega (arith, whole)) (parts .within) (λ d. d .code) (listed .ascending) parts fresh;
       }

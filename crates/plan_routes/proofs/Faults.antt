@@ -6,7 +6,7 @@ use Prim.Native.Nat.{ℕ}
 use lib.Dec.{eqb, ltb, leb}
 use lib.ListN.{getD}
 use Rattle.plan.specs.declared.data.Plan.{Plan}
-use Rattle.plan.specs.Data.{noRoute, setAt, routesOf}
+use Rattle.plan.specs.Data.{absentRoute, setAt, routesOf}
 use Rattle.plan.specs.Find.{placeOf, isFound}
 use Rattle.plan_repeats.specs.Taken.{setTaken}
 use Rattle.plan_building.specs.Building.{refused, accepted}
@@ -15,13 +15,13 @@ use Rattle.plan_building.proofs.Tests.{either, neither, one-of, none-of}
 
 -- a route of a destination that is given
 module _ (plan : Plan) (place destination those rank : ℕ) where
-  pub known-repeats : (setTaken (routesOf plan place) those ≡ true) ⊎ (getD (routesOf plan place) rank noRoute .given ≡ true)
+  pub known-repeats : (setTaken (routesOf plan place) those ≡ true) ⊎ (getD (routesOf plan place) rank absentRoute .given ≡ true)
       → refused 22 plan ≡ addKnown plan place destination those rank
-  known-repeats repeats = simp (either (setTaken (routesOf plan place) those) (getD (routesOf plan place) rank noRoute .given) repeats)
+  known-repeats repeats = simp (either (setTaken (routesOf plan place) those) (getD (routesOf plan place) rank absentRoute .given) repeats)
 
-  pub known-added : (setTaken (routesOf plan place) those ≡ false) × (getD (routesOf plan place) rank noRoute .given ≡ false)
+  pub known-added : (setTaken (routesOf plan place) those ≡ false) × (getD (routesOf plan place) rank absentRoute .given ≡ false)
       → accepted (knownRoute plan place destination those rank) ≡ addKnown plan place destination those rank
-  known-added fresh = simp (neither (setTaken (routesOf plan place) those) (getD (routesOf plan place) rank noRoute .given) fresh)
+  known-added fresh = simp (neither (setTaken (routesOf plan place) those) (getD (routesOf plan place) rank absentRoute .given) fresh)
 
 -- `route destination set rank`
 module _ (plan : Plan) (destination those rank : ℕ) where

@@ -8,7 +8,7 @@ use lib.ListN.{replicate, length-set}
 use borrow.Author.Tests.{leb-false}
 use Rattle.plan.specs.declared.data.Plan.{Plan}
 use Rattle.plan.specs.declared.data.Route.{Route}
-use Rattle.plan.specs.Data.{noRoute, setAt, routesOf}
+use Rattle.plan.specs.Data.{absentRoute, setAt, routesOf}
 use Rattle.plan.specs.Find.{given, placeOf, isFound}
 use Rattle.plan.specs.Sound.{Sound}
 use Rattle.plan_building.specs.Building.{Kept}
@@ -41,8 +41,8 @@ module _ (plan : Plan) (sound : Sound plan) (destination those rank : ℕ) where
       let one-more : given plan + 1 ≡ given (newRoute plan place destination those rank) = omega arith in
       sound-of _ (linked plan sound)
       (subst (λ (n : ℕ). Listed n (newRoute plan place destination those rank .destinations)) one-more
-      (new-listed (given plan) (plan .destinations) place (record { code = destination; routes = withRoute (replicate 4 noRoute) those rank }) (listed plan sound)
-      (length-set (replicate 4 noRoute) rank route)
+      (new-listed (given plan) (plan .destinations) place (record { code = destination; routes = withRoute (replicate 4 absentRoute) those rank }) (listed plan sound)
+      (length-set (replicate 4 absentRoute) rank route)
       (omega arith)
       (parted plan sound destination)
       (λ i h same. false≢true (sym missing ∙ stands-found plan sound destination i (record { within = h; has-code = same }) .0))))

@@ -7,7 +7,7 @@ use lib.Dec.{eqb, ltb, leb}
 use Rattle.plan.specs.declared.data.Plan.{Plan}
 use Rattle.plan.specs.declared.data.Route.{Route}
 use Rattle.plan_building.specs.declared.Added.{Added}
-use Rattle.plan.specs.Data.{noRoute, setAt, routesOf}
+use Rattle.plan.specs.Data.{absentRoute, setAt, routesOf}
 use Rattle.plan.specs.Find.{placeOf, isFound}
 use Rattle.plan_repeats.specs.Taken.{setTaken}
 use Rattle.plan_entries.specs.Insert.{inserted}
@@ -15,7 +15,7 @@ use Rattle.plan_building.specs.Building.{refused, accepted}
 
 -- "destination with the same set or rank" (R172)
 abbrev pub routeTaken : List Route → ℕ → ℕ → Bool
-routeTaken routes those rank = setTaken routes those || getD routes rank noRoute .given
+routeTaken routes those rank = setTaken routes those || getD routes rank absentRoute .given
 
 -- the routes with one more
 abbrev pub withRoute : List Route → ℕ → ℕ → List Route
@@ -54,7 +54,7 @@ newRoute plan place destination those rank =
       links = plan .links;
       destinations =
           inserted place
-          (record { code = destination; routes = withRoute (replicate 4 noRoute) those rank })
+          (record { code = destination; routes = withRoute (replicate 4 absentRoute) those rank })
           (plan .destinations);
     }
 

@@ -11,7 +11,7 @@ use borrow.Author.Tests.{eqb-true}
 use borrow.Table.Steps.{cases}
 use Rattle.text_fields.specs.declared.Found.{Found}
 use Rattle.text_fields.specs.Fields.{fieldsAt}
-use Rattle.text_fields.proofs.Listed.{ByFour, listed}
+use Rattle.text_fields.proofs.Listed.{ByFour, fields-listed}
 use Rattle.plan_keywords.specs.declared.Word.{Word}
 use Rattle.plan_keywords.specs.declared.Word.the-variants.{Node, Set, Link, Route, Other}
 use Rattle.plan_statement.specs.declared.Said.{Said}
@@ -59,4 +59,4 @@ pub by-reading :
     third ≡ slice (f .two .next) (f .three .end) text →
     (said : Said) → said ≡ saysCounted (f .count) word first second third → said ≡ readStatement (slice at to text)
 by-reading text at to f e word first second third e₀ e₁ e₂ e₃ said e₄ =
-    e₄ ∙ (λ i. saysCounted (f .count) (e₀ i) (e₁ i) (e₂ i) (e₃ i)) ∙ sym (by-four _ _ _ _ _ _ (listed text at to f e))
+    e₄ ∙ (λ i. saysCounted (f .count) (e₀ i) (e₁ i) (e₂ i) (e₃ i)) ∙ sym (by-four _ _ _ _ _ _ (fields-listed text at to f e))

@@ -10,7 +10,7 @@ use lib.ListN.{length, getD, replicate, length-replicate, length-map, List·getD
 use lib.Seq.{sets, length-sets, ext-getD}
 use borrow.Author.Tests.{le-leb, lt-leb}
 use Rattle.plan.specs.declared.data.Plan.{Plan}
-use Rattle.plan.specs.Data.{noSet, noLink, noRoute, noDestination, setAt, linkAt, destinationAt}
+use Rattle.plan.specs.Data.{absentSet, absentLink, absentRoute, absentDestination, setAt, linkAt, destinationAt}
 use Rattle.plan_words.specs.Words.{table, octetIn, routeOf, routeIn, setIn, linkIn, destinationIn, planAt}
 use Rattle.plan_words.proofs.Said.{table-at, table-length}
 use Rattle.plan_store.specs.Layout.{flagWord, routeWord, nodeWords, setWords, linkWords, codeWords, routeWords, placed, wordsOf}
@@ -87,7 +87,7 @@ module _ (plan : Plan) (fits : Fits plan) (area : List ℕ) (size : length area 
       let word : (k place : ℕ) → place ≡ 16 + 16 * i + k → k < 12 → getD whole place 0 ≡ getD (setWords known) k 0 =
       λ k place e l.
       sets-kept place (omega arith)
-      ∙ placed-there setWords 16 noSet 16 (plan .sets) node i k place e (omega (arith, fits .eight-sets)) (omega arith) (omega (arith, fit .eight)) (omega (arith, long-node))
+      ∙ placed-there setWords 16 absentSet 16 (plan .sets) node i k place e (omega (arith, fits .eight-sets)) (omega arith) (omega (arith, fit .eight)) (omega (arith, long-node))
       in
       let links : table (λ k. octetIn whole (20 + 16 * i + k)) 0 8 ≡ known .links =
       table-same 0 (λ k. octetIn whole (20 + 16 * i + k)) 8 (known .links) (fit .eight)
@@ -103,7 +103,7 @@ module _ (plan : Plan) (fits : Fits plan) (area : List ℕ) (size : length area 
       let word : (k place : ℕ) → place ≡ 144 + 4 * i + k → k < 3 → getD whole place 0 ≡ getD (linkWords known) k 0 =
       λ k place e l.
       links-kept place (omega arith)
-      ∙ placed-there linkWords 4 noLink 144 (plan .links) with-sets i k place e (omega (arith, fits .all-links)) (omega arith) l (omega (arith, long-sets))
+      ∙ placed-there linkWords 4 absentLink 144 (plan .links) with-sets i k place e (omega (arith, fits .all-links)) (omega arith) l (omega (arith, long-sets))
       in
       simp
       (word 0 (144 + 4 * i) (omega arith) (omega arith), word 1 (145 + 4 * i) (omega arith) (omega arith), word 2 (146 + 4 * i) (omega arith) (omega arith), flagged (known .given), mod-eq-of-lt (fit .set-octet), mod-eq-of-lt (fit .slc-octet))
@@ -115,14 +115,14 @@ module _ (plan : Plan) (fits : Fits plan) (area : List ℕ) (size : length area 
       let within : i < length (plan .destinations) = omega (arith, fits .all-destinations) in
       let code : getD whole (272 + i) 0 ≡ known .code =
       codes-kept (272 + i) (omega arith)
-      ∙ placed-there codeWords 1 noDestination 272 (plan .destinations) with-links i 0 (272 + i) (omega arith) within (omega arith) (omega arith) (omega (arith, long-links))
+      ∙ placed-there codeWords 1 absentDestination 272 (plan .destinations) with-links i 0 (272 + i) (omega arith) within (omega arith) (omega arith) (omega (arith, long-links))
       in
       let routes : table (λ rank. routeIn whole (336 + 4 * i + rank)) 0 4 ≡ known .routes =
-      table-same noRoute (λ rank. routeIn whole (336 + 4 * i + rank)) 4 (known .routes) (fit .four)
+      table-same absentRoute (λ rank. routeIn whole (336 + 4 * i + rank)) 4 (known .routes) (fit .four)
       (λ rank l.
       ap routeOf
-      (placed-there routeWords 4 noDestination 336 (plan .destinations) with-codes i rank (336 + 4 * i + rank) refl within l (omega (arith, fit .four, length-map (known .routes) routeWord)) (omega (arith, long-codes))
-      ∙ List·getD-map routeWord (known .routes) rank noRoute)
+      (placed-there routeWords 4 absentDestination 336 (plan .destinations) with-codes i rank (336 + 4 * i + rank) refl within l (omega (arith, fit .four, length-map (known .routes) routeWord)) (omega (arith, long-codes))
+      ∙ List·getD-map routeWord (known .routes) rank absentRoute)
       ∙ routed _ _ (fit .octets rank l))
       in
       simp (code, routes)
@@ -141,9 +141,9 @@ module _ (plan : Plan) (fits : Fits plan) (area : List ℕ) (size : length area 
         flagged (plan .given),
         mod-eq-of-lt (fits .ni-octet),
         mod-eq-of-lt (fits .count-octet),
-        table-same noSet (setIn whole) 8 (plan .sets) (fits .eight-sets) set-again,
-        table-same noLink (linkIn whole) 32 (plan .links) (fits .all-links) link-again,
-        table-same noDestination (destinationIn whole) 64 (plan .destinations) (fits .all-destinations) destination-again,
+        table-same absentSet (setIn whole) 8 (plan .sets) (fits .eight-sets) set-again,
+        table-same absentLink (linkIn whole) 32 (plan .links) (fits .all-links) link-again,
+        table-same absentDestination (destinationIn whole) 64 (plan .destinations) (fits .all-destinations) destination-again,
       )
 
 -- a plan that fits is what its words say

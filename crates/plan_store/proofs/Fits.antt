@@ -23,7 +23,7 @@ use Rattle.plan.specs.declared.data.LinkSet.{LinkSet}
 use Rattle.plan.specs.declared.data.Link.{Link}
 use Rattle.plan.specs.declared.data.Route.{Route}
 use Rattle.plan.specs.declared.data.Destination.{Destination}
-use Rattle.plan.specs.Data.{noSet, noLink, noRoute, noDestination}
+use Rattle.plan.specs.Data.{absentSet, absentLink, absentRoute, absentDestination}
 use Rattle.plan_store.specs.Fits.{SetFits, LinkFits, DestinationFits, Fits}
 
 -- what is known of each value of a type is known of the one at a place of an array
@@ -51,7 +51,7 @@ destination-fits known vs p =
     let four : length (known .routes) ≡ 4 = search (needs, unmapped) in
     record {
       four = four;
-      octets = λ rank h. at-place route.the-type (λ r. r .set < 256) route-fits (known .routes) _ rank noRoute (omega arith) (p .1 .1 .1 .0 .1 .1);
+      octets = λ rank h. at-place route.the-type (λ r. r .set < 256) route-fits (known .routes) _ rank absentRoute (omega arith) (p .1 .1 .1 .0 .1 .1);
     }
 
 pub plan-fits : (known : Plan) (vs : List Val) → Is (row plan.the-type) known vs → Fits known
@@ -66,8 +66,8 @@ plan-fits known vs p =
       eight-sets = eight;
       all-links = all;
       all-destinations = most;
-      each-set = λ i h. at-place linkset.the-type SetFits set-fits (known .sets) _ i noSet (omega arith) (tables .0 .1 .1);
-      each-link = λ i h. at-place link.the-type LinkFits link-fits (known .links) _ i noLink (omega arith) (tables .1 .0 .1 .1);
+      each-set = λ i h. at-place linkset.the-type SetFits set-fits (known .sets) _ i absentSet (omega arith) (tables .0 .1 .1);
+      each-link = λ i h. at-place link.the-type LinkFits link-fits (known .links) _ i absentLink (omega arith) (tables .1 .0 .1 .1);
       each-destination =
-          λ i h. at-place destination.the-type DestinationFits destination-fits (known .destinations) _ i noDestination (omega arith) (tables .1 .1 .0 .1 .1);
+          λ i h. at-place destination.the-type DestinationFits destination-fits (known .destinations) _ i absentDestination (omega arith) (tables .1 .1 .0 .1 .1);
     }

@@ -6,7 +6,7 @@ use Rattle.plan.specs.declared.data.Plan.{Plan}
 use Rattle.plan.specs.declared.data.LinkSet.{LinkSet}
 use Rattle.plan.specs.declared.data.Link.{Link}
 use Rattle.plan.specs.declared.data.Destination.{Destination}
-use Rattle.plan.specs.Data.{noRoute, setAt, linkAt, destinationAt}
+use Rattle.plan.specs.Data.{absentRoute, setAt, linkAt, destinationAt}
 
 -- a set: places for eight links, its count and each of its links an octet
 pub record SetFits (set : LinkSet) : Type 0 where
@@ -22,7 +22,7 @@ pub record LinkFits (link : Link) : Type 0 where
 -- a destination: four routes, the set of each an octet
 pub record DestinationFits (destination : Destination) : Type 0 where
   pub four : length (destination .routes) ≡ 4
-  pub octets : (rank : ℕ) → rank < 4 → getD (destination .routes) rank noRoute .set < 256
+  pub octets : (rank : ℕ) → rank < 4 → getD (destination .routes) rank absentRoute .set < 256
 
 -- a plan: its network indicator and its count are octets, eight sets, 32 links, 64 destinations
 pub record Fits (plan : Plan) : Type 0 where

@@ -10,7 +10,7 @@ use Rattle.plan.specs.declared.data.Plan.{Plan}
 use Rattle.plan.specs.declared.data.LinkSet.{LinkSet}
 use Rattle.plan.specs.declared.data.Destination.{Destination}
 use Rattle.plan.specs.declared.data.Route.{Route}
-use Rattle.plan.specs.Data.{noSet, noLink, noDestination, setAt, linkAt, linksOf, destinationAt, routesOf}
+use Rattle.plan.specs.Data.{absentSet, absentLink, absentDestination, setAt, linkAt, linksOf, destinationAt, routesOf}
 use Rattle.plan.proofs.Split.{split}
 use Rattle.plan_words.specs.Words.{wordIn, octetIn, flagIn, routeIn, setIn, linkIn, destinationIn, table, planAt, routesAt}
 
@@ -74,14 +74,14 @@ module _ (words : List ℕ) where
   all-destinations = table-length (destinationIn words) 0 64
 
   -- past its end a table has nothing given
-  pub set-past : (set : ℕ) → 8 ≤ set → setAt (planAt words) set ≡ noSet
-  set-past set h = List·getD-eq-default (planAt words .sets) noSet {n = set} (omega (arith, eight-sets))
+  pub set-past : (set : ℕ) → 8 ≤ set → setAt (planAt words) set ≡ absentSet
+  set-past set h = List·getD-eq-default (planAt words .sets) absentSet {n = set} (omega (arith, eight-sets))
 
-  pub link-past : (link : ℕ) → 32 ≤ link → linkAt (planAt words) link ≡ noLink
-  link-past link h = List·getD-eq-default (planAt words .links) noLink {n = link} (omega (arith, all-links))
+  pub link-past : (link : ℕ) → 32 ≤ link → linkAt (planAt words) link ≡ absentLink
+  link-past link h = List·getD-eq-default (planAt words .links) absentLink {n = link} (omega (arith, all-links))
 
-  pub destination-past : (place : ℕ) → 64 ≤ place → destinationAt (planAt words) place ≡ noDestination
-  destination-past place h = List·getD-eq-default (planAt words .destinations) noDestination {n = place} (omega (arith, all-destinations))
+  pub destination-past : (place : ℕ) → 64 ≤ place → destinationAt (planAt words) place ≡ absentDestination
+  destination-past place h = List·getD-eq-default (planAt words .destinations) absentDestination {n = place} (omega (arith, all-destinations))
 
   pub link-of-set : (set i : ℕ) → set < 8 → i < 8 → getD (setAt (planAt words) set .links) i 0 ≡ octetIn words (20 + 16 * set + i)
   link-of-set set i h k =

@@ -11,7 +11,7 @@ use Rattle.plan.specs.declared.data.LinkSet.{LinkSet}
 use Rattle.plan.specs.declared.data.Link.{Link}
 use Rattle.plan.specs.declared.data.Route.{Route}
 use Rattle.plan.specs.declared.data.Destination.{Destination}
-use Rattle.plan.specs.Data.{noRoute, routesOf}
+use Rattle.plan.specs.Data.{absentRoute, routesOf}
 
 -- a word as a number, as an octet, as a flag
 abbrev pub wordIn : List ℕ → ℕ → ℕ
@@ -77,7 +77,7 @@ planAt words =
 
 -- the four routes of a destination, none past the last
 abbrev pub routesAt : Plan → ℕ → List Route
-routesAt plan place = cond (ltb place 64) (routesOf plan place) (replicate 4 noRoute)
+routesAt plan place = cond (ltb place 64) (routesOf plan place) (replicate 4 absentRoute)
 
 -- the plan that lent words say before a call
 abbrev pub planOf : {X : Type 0} → Both (RefT (List ℕ)) X → Plan

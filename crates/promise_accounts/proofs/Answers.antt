@@ -1,28 +1,115 @@
--- The answer to a management message is queued: the areas stay regular, no link's queue gets shorter, and its first messages are the
--- same.
+-- The answer to a management message is queued, with the next number at the end of its path's queue: the areas stay regular, and all that
+-- was queued stays before it.
 -- Assumes nothing.
-use mathlib.Core.Path.{_≡_, refl, sym, _∙_}
-use mathlib.Core.Bool.{true}
-use mathlib.Core.List.{List, [], _++_, append-nil}
+use mathlib.Core.Path.{_≡_, refl, sym, ap, _∙_}
+use mathlib.Core.Bool.{Bool, true, false, cond, _&&_, and-eq-true-iff}
+use mathlib.Core.List.{List, [], _∷_, _++_, append-nil}
 use Prim.Native.Nat.{ℕ, _≤_, _<_}
 use native.Mathlib.Omega.{arith}
+use lib.Dec.{eqb, ltb}
 use lib.ListN.{take}
+use borrow.Author.Tests.{ltb-true, eqb-true, eqb-false, eq-eqb, ne-eqb}
 use Rattle.plan.specs.declared.data.Plan.{Plan}
+use Rattle.area_slots.specs.SlotRows.{withSlot}
+use Rattle.area_slots.specs.declared.Slot.{Slot}
 use Rattle.queue_rings.specs.Ring.{countOf}
+use Rattle.queue_slots.specs.Message.{managementRows}
+use Rattle.queue_slots.specs.Message as Message
+use Rattle.queue_slots.proofs.ReadBack.{management-read}
+use Rattle.queue_store.specs.Sound.{Sound}
+use Rattle.wire_messages.specs.Management.{headingOf, fieldOf}
 use Rattle.replies.specs.Areas.{Areas}
-use Rattle.management_making.specs.Make.{Held, pathOf, hasPath, made, heldIn, withHeld, withMade}
 use Rattle.route_choice.specs.Which.{none}
-use Rattle.queue_heads.specs.Head.{both}
-use borrow.Author.Tests.{ltb-true}
+use Rattle.queue_heads.specs.Head.{Queues, both, headOf}
+use Rattle.queue_joining.specs.Queue.{nextOf, managementReply, managementQueues, rowsWithManagement}
+use Rattle.management_making.specs.Make.{Held, pathOf, hasPath, isMade, made, heldIn, withHeld, withMade}
 use Rattle.management_steps.specs.declared.Step.{Step}
 use Rattle.management_steps.specs.Step.{answer, draft}
 use Rattle.management_orders.specs.Carry.{withAnswer}
 use Rattle.promise_runs.proofs.Outcomes.{RegularIn, by-test}
 use Rattle.promise_runs.proofs.KeepsMaking.{made-regular}
-use Rattle.promise_ledger.proofs.Behind.{management-other, management-joined}
+use Rattle.promise_ledger.specs.Held.{arrivalOf, numbers}
+use Rattle.promise_ledger.proofs.Free.{slot-below}
+use Rattle.promise_ledger.proofs.Joined.{arrival-other, management-found}
+use Rattle.promise_ledger.proofs.Behind.{joined-there, management-other}
 use Rattle.promise_accounts.specs.Gone.{queueOf}
 use Rattle.promise_accounts.proofs.Never.{way-never}
 use Rattle.promise_accounts.proofs.EvenMaking.{joined, made-more, made-before}
+
+-- what holds of a message and of what is new by it, by the tests that decide whether it is made, and where
+by-made : {A : Type 0} (P : A → List ℕ → Type 0) (path place there : Bool) (with without : A) (new : List ℕ)
+    → (path ≡ true → place ≡ true → there ≡ true → P with new)
+    → (path ≡ true → place ≡ true → there ≡ false → P with [])
+    → (path ≡ true → place ≡ false → P with [])
+    → (path ≡ false → P without [])
+    → P (cond path with without) (cond ((path && place) && there) new [])
+by-made P true true true with without new p q r s = p refl refl refl
+by-made P true true false with without new p q r s = q refl refl refl
+by-made P true false there with without new p q r s = r refl refl
+by-made P false place there with without new p q r s = s refl
+
+by-answer : {A : Type 0} (P : A → List ℕ → Type 0) (answers made there : Bool) (with without : A) (new : List ℕ)
+    → P with (cond (made && there) new [])
+    → P without []
+    → P (cond answers with without) (cond ((answers && made) && there) new [])
+by-answer P true made there with without new p q = p
+by-answer P false made there with without new p q = q
+
+-- nothing is new where the tests exclude each other
+pub none-there : (made there : Bool) (new : List ℕ) → (made ≡ true → there ≡ false) → cond (made && there) new [] ≡ []
+none-there true there new other = ap (λ (t : Bool). cond t new []) (other refl)
+none-there false there new other = refl
+
+-- a management message that is queued has the next number, at the end of its queue; one that isn't leaves every queue
+module _
+    (rows octets : List ℕ)
+    (queues : Queues)
+    (sound : Sound (queues .spans) (queues .rings) rows octets)
+    (arrivals : List ℕ)
+    (ring : ℕ) where
+  module _ (h : ring < 33) (heading point slc field : ℕ) (done : managementReply (queues .spans) arrivals ≡ 0) where
+    abbrev slot : ℕ
+    slot = headOf queues 34 .slot
+
+    abbrev row : Slot
+    row = Message.managementRow (nextOf arrivals) heading point slc field
+
+    found : headOf queues 34 .found ≡ true
+    found = management-found (λ n. true) rows octets queues sound arrivals done
+
+    number-is : arrivalOf (withSlot rows slot row) slot ≡ nextOf arrivals
+    unfolding managementRows
+    number-is =
+        ap (λ (s : Slot). s .arrival)
+        (management-read rows slot (nextOf arrivals) heading point slc field (sound .rowsLong) (slot-below rows octets queues sound 34 found))
+
+    pub management-there : numbers (rowsWithManagement queues arrivals rows heading point slc field) (managementQueues queues arrivals ring) ring
+        ≡ numbers rows queues ring ++ (nextOf arrivals ∷ [])
+    unfolding managementQueues rowsWithManagement managementRows
+    management-there =
+        simp (eq-eqb (managementReply (queues .spans) arrivals) 0 done)
+        (joined-there rows octets queues sound 34 found (omega arith) (withSlot rows slot row) (arrival-other rows slot row) ring h
+        ∙ ap (λ (n : ℕ). numbers rows queues ring ++ (n ∷ [])) number-is)
+
+  pub management-refused : (heading point slc field : ℕ) → eqb (managementReply (queues .spans) arrivals) 0 ≡ false → (link : ℕ)
+      → numbers (rowsWithManagement queues arrivals rows heading point slc field) (managementQueues queues arrivals ring) link
+      ≡ numbers rows queues link
+  unfolding managementQueues rowsWithManagement
+  management-refused heading point slc field refused link = simp refused
+
+-- the links, the flags and the reports are as they were, whatever the areas
+module _ (a : Areas) (plan : Plan) (step : Step) where
+  pub left-links : withAnswer plan step a .links ≡ a .links
+  unfolding withAnswer
+  left-links = by-test (λ (b : Areas). b .links ≡ a .links) (step .answers) (withMade plan (step .draft) a) a (λ e. refl) (λ e. refl)
+
+  pub left-marks : withAnswer plan step a .marks ≡ a .marks
+  unfolding withAnswer
+  left-marks = by-test (λ (b : Areas). b .marks ≡ a .marks) (step .answers) (withMade plan (step .draft) a) a (λ e. refl) (λ e. refl)
+
+  pub left-reports : withAnswer plan step a .reports ≡ a .reports
+  unfolding withAnswer
+  left-reports = by-test (λ (b : Areas). b .reports ≡ a .reports) (step .answers) (withMade plan (step .draft) a) a (λ e. refl) (λ e. refl)
 
 module _ (a : Areas) (octets : List ℕ) (regular : RegularIn a octets) (plan : Plan) (step : Step) where
   -- the areas with the answer queued
@@ -52,36 +139,98 @@ module _ (a : Areas) (octets : List ℕ) (regular : RegularIn a octets) (plan : 
       (λ e. refl)
 
   pub answer-reports : answered .reports ≡ a .reports
-  unfolding withAnswer
-  answer-reports =
-      by-test (λ (b : Areas). b .reports ≡ a .reports) (step .answers) (withMade plan (step .draft) a) a (λ e. refl) (λ e. refl)
+  answer-reports = left-reports a plan step
 
-  -- every queue has what it had, with at most the answer behind it
-  made-joined : (link : ℕ) → link < 33 → (new : List ℕ) × (queueOf (withMade plan (step .draft) a) link ≡ queueOf a link ++ new)
-  unfolding made
+  -- what a message that is made adds to a queue: the next number, if the queue is that of its path
+  abbrev madeOn : ℕ → List ℕ
+  madeOn link =
+      cond
+      (isMade plan (a .links) (a .marks) (a .spans) (a .arrivals) (step .draft) && eqb link (pathOf plan (a .links) (a .marks) (step .draft)))
+      (nextOf (a .arrivals) ∷ [])
+      []
+
+  made-joined : (link : ℕ) → link < 33 → queueOf (withMade plan (step .draft) a) link ≡ queueOf a link ++ madeOn link
+  unfolding made isMade
   made-joined link h =
       let path = pathOf plan (a .links) (a .marks) (step .draft) in
-      by-test (λ (now : Held). (new : List ℕ) × (queueOf (withHeld a now) link ≡ queueOf a link ++ new))
+      let reply = managementReply (a .spans) (a .arrivals) in
+      let alone : queueOf a link ≡ queueOf a link ++ [] = sym (append-nil (queueOf a link)) in
+      by-made (λ (now : Held) (new : List ℕ). queueOf (withHeld a now) link ≡ queueOf a link ++ new)
       (hasPath plan (a .links) (a .marks) (step .draft))
-      (joined a octets regular path (step .draft .heading) (step .draft .point) (step .draft .slc) (step .draft .field))
+      (eqb reply 0)
+      (eqb link path)
+      (joined a octets regular path (headingOf (step .draft .message)) (step .draft .point) (step .draft .slc) (fieldOf (step .draft .message)))
       (heldIn a)
-      (λ e.
+      (nextOf (a .arrivals) ∷ [])
+      (λ e done there.
       let within = ltb-true path none e in
-      management-joined (a .rows) octets (both (a .spans) (a .rings)) (regular .store) (a .arrivals) path (omega arith)
-      (step .draft .heading)
+      let same = eqb-true link path there in
+      ap (queueOf (withHeld a (joined a octets regular path (headingOf (step .draft .message)) (step .draft .point) (step .draft .slc) (fieldOf (step .draft .message))))) same
+      ∙ management-there (a .rows) octets (both (a .spans) (a .rings)) (regular .store) (a .arrivals) path (omega arith)
+      (headingOf (step .draft .message))
       (step .draft .point)
       (step .draft .slc)
-      (step .draft .field)
+      (fieldOf (step .draft .message))
+      (eqb-true reply 0 done)
+      ∙ ap (λ (r : ℕ). queueOf a r ++ (nextOf (a .arrivals) ∷ [])) (sym same))
+      (λ e done elsewhere.
+      let within = ltb-true path none e in
+      management-other (a .rows) octets (both (a .spans) (a .rings)) (regular .store) (a .arrivals) path (omega arith)
+      (headingOf (step .draft .message))
+      (step .draft .point)
+      (step .draft .slc)
+      (fieldOf (step .draft .message))
       link
-      h)
-      (λ e. ([], sym (append-nil (queueOf a link))))
+      h
+      (eqb-false link path elsewhere)
+      ∙ alone)
+      (λ e refused.
+      management-refused (a .rows) octets (both (a .spans) (a .rings)) (regular .store) (a .arrivals) path
+      (headingOf (step .draft .message))
+      (step .draft .point)
+      (step .draft .slc)
+      (fieldOf (step .draft .message))
+      refused
+      link
+      ∙ alone)
+      (λ e. alone)
 
-  pub answer-joined : (link : ℕ) → link < 33 → (new : List ℕ) × (queueOf answered link ≡ queueOf a link ++ new)
+  -- every queue has what it had, with the answer behind it if it is that of the answer's path
+  pub answer-joined : (link : ℕ) → link < 33
+      → queueOf answered link
+      ≡ queueOf a link
+      ++ cond
+      ((step .answers && isMade plan (a .links) (a .marks) (a .spans) (a .arrivals) (step .draft))
+      && eqb link (pathOf plan (a .links) (a .marks) (step .draft)))
+      (nextOf (a .arrivals) ∷ [])
+      []
   unfolding withAnswer
   answer-joined link h =
-      by-test (λ (b : Areas). (new : List ℕ) × (queueOf b link ≡ queueOf a link ++ new)) (step .answers) (withMade plan (step .draft) a) a
-      (λ e. made-joined link h)
-      (λ e. ([], sym (append-nil (queueOf a link))))
+      by-answer (λ (b : Areas) (new : List ℕ). queueOf b link ≡ queueOf a link ++ new) (step .answers)
+      (isMade plan (a .links) (a .marks) (a .spans) (a .arrivals) (step .draft))
+      (eqb link (pathOf plan (a .links) (a .marks) (step .draft)))
+      (withMade plan (step .draft) a)
+      a
+      (nextOf (a .arrivals) ∷ [])
+      (made-joined link h)
+      (sym (append-nil (queueOf a link)))
+
+  -- no link is past the 32, so the answer isn't held apart
+  pub answer-apart : cond
+      ((step .answers && isMade plan (a .links) (a .marks) (a .spans) (a .arrivals) (step .draft))
+      && eqb 32 (pathOf plan (a .links) (a .marks) (step .draft)))
+      (nextOf (a .arrivals) ∷ [])
+      []
+      ≡ []
+  unfolding isMade
+  answer-apart =
+      let path = pathOf plan (a .links) (a .marks) (step .draft) in
+      let placed = eqb (managementReply (a .spans) (a .arrivals)) 0 in
+      none-there (step .answers && (ltb path none && placed)) (eqb 32 path) (nextOf (a .arrivals) ∷ [])
+      (λ made.
+      let has = and-eq-true-iff (ltb path none) placed .0 (and-eq-true-iff (step .answers) (ltb path none && placed) .0 made .1) .0 in
+      let within = ltb-true path none has in
+      ne-eqb 32 path (λ same. omega arith))
 
   -- and that of the link which the answer never uses is as it was
   made-never : (link : ℕ) → link < 32 → step .draft .never ≡ link → queueOf (withMade plan (step .draft) a) link ≡ queueOf a link
@@ -89,15 +238,15 @@ module _ (a : Areas) (octets : List ℕ) (regular : RegularIn a octets) (plan : 
   made-never link h never =
       let path = pathOf plan (a .links) (a .marks) (step .draft) in
       by-test (λ (now : Held). queueOf (withHeld a now) link ≡ queueOf a link) (hasPath plan (a .links) (a .marks) (step .draft))
-      (joined a octets regular path (step .draft .heading) (step .draft .point) (step .draft .slc) (step .draft .field))
+      (joined a octets regular path (headingOf (step .draft .message)) (step .draft .point) (step .draft .slc) (fieldOf (step .draft .message)))
       (heldIn a)
       (λ e.
       let within = ltb-true path none e in
       management-other (a .rows) octets (both (a .spans) (a .rings)) (regular .store) (a .arrivals) path (omega arith)
-      (step .draft .heading)
+      (headingOf (step .draft .message))
       (step .draft .point)
       (step .draft .slc)
-      (step .draft .field)
+      (fieldOf (step .draft .message))
       link
       (omega arith)
       (λ same.

@@ -1,4 +1,4 @@
--- What a management message asks of a link's queue can be borne: no more is retired than stands there.
+-- What a management message asks of a link's queue can be borne: no more is retired and dropped than stands there.
 -- Assumes nothing.
 use mathlib.Core.Path.{_≡_}
 use mathlib.Core.Bool.{true, cond, _&&_, and-eq-true-iff}
@@ -63,12 +63,12 @@ module _ (count : ℕ → ℕ) where
     unfolding askCOO
     coo-bears f =
         by-test (Bears count) (ltb link 32)
-        (orderStep (recordAt links link) link (draft 0x21 point slc (lastReceived links arriving fsn link) link) (emergencyOf point slc link)
+        (orderStep (recordAt links link) link (draft (COA (lastReceived links arriving fsn link)) point slc link) (emergencyOf point slc link)
         (cutAt (recordAt links link) f))
         nothing
         (λ e.
         let h = ltb-true link 32 e in
-        order-bears (recordAt links link) link h (draft 0x21 point slc (lastReceived links arriving fsn link) link) (emergencyOf point slc link)
+        order-bears (recordAt links link) link h (draft (COA (lastReceived links arriving fsn link)) point slc link) (emergencyOf point slc link)
         (cutAt (recordAt links link) f)
         (at-fits f h))
         (λ e. unmet)
@@ -82,7 +82,7 @@ module _ (count : ℕ → ℕ) where
         (λ e.
         order-bears (recordAt links link) link (ltb-true link 32 e) (emergencyOf point slc link) (emergencyOf point slc link)
         (cutUnknown (recordAt links link))
-        (omega arith, omega arith))
+        (omega (arith, queued link (ltb-true link 32 e)), omega arith))
         (λ e. unmet)
 
     coa-bears : (f : ℕ) → Bears count (askCOA plan links point slc f)
@@ -91,17 +91,17 @@ module _ (count : ℕ → ℕ) where
 
     eca-bears : Bears count (askECA plan links point slc)
     unfolding askECA
-    eca-bears = ack-bears link (recordAt links link) (cutUnknown (recordAt links link)) (λ h. (omega arith, omega arith))
+    eca-bears = ack-bears link (recordAt links link) (cutUnknown (recordAt links link)) (λ h. (omega (arith, queued link h), omega arith))
 
     cbd-bears : (code : ℕ) → Bears count (askCBD plan point slc code)
     unfolding askCBD
     cbd-bears code =
-        by-test (Bears count) (ltb link 32) (answer (draft 0x61 point slc code 32)) nothing (λ e. unmet) (λ e. unmet)
+        by-test (Bears count) (ltb link 32) (answer (draft (CBA code) point slc 32)) nothing (λ e. unmet) (λ e. unmet)
 
     rst-bears : (x : ℕ) → Bears count (askRST plan links marks point x)
     unfolding askRST
     rst-bears x =
-        by-test (Bears count) (allows plan links marks point x) (answer (draft 0x54 point 0 x 32)) nothing (λ e. unmet) (λ e. unmet)
+        by-test (Bears count) (allows plan links marks point x) (answer (draft (TFA x) point 0 32)) nothing (λ e. unmet) (λ e. unmet)
 
     -- whatever it is
     pub asked-bears : (message : Message) → Bears count (stepAsked plan links marks arriving fsn point slc message)

@@ -9,6 +9,7 @@ use lib.Dec.{eqb, ltb, leb}
 use lib.ListN.{length}
 use borrow.Author.Tests.{ltb-true, ltb-false, leb-true, leb-false, eqb-true}
 use borrow.Table.Steps.{cases}
+use Rattle.constants.specs.Constants.{noLink}
 use Rattle.plan.specs.declared.data.Plan.{Plan}
 use Rattle.plan.specs.Find.{given}
 use Rattle.plan.proofs.Split.{both-false, alike}
@@ -29,6 +30,7 @@ use Rattle.changeover.specs.Fail.{openFailed, failed}
 use Rattle.changeover_failure.specs.Failure as Failure
 use Rattle.changeover_failure.specs.Overdue as Overdue
 use Rattle.changeover_overdue.specs.Expire as Timer
+use Rattle.management_making.specs.Make.{pathOf, isMade}
 use Rattle.management_steps.specs.declared.Step.{Step}
 use Rattle.management_orders.specs.Carry.{answerReply, withAnswer, endedBy, carried}
 use Rattle.managing.specs.Managed.{asked, stepAsked, managed}
@@ -81,10 +83,10 @@ module _ (plan : Plan) where
 
   module _ (a : Areas) (octets : List ℕ) (regular : RegularIn a octets) where
     -- the link goes out
-    pub out-exactly : (ends : Bool) (link : ℕ) → link < 32 → short (a .reports) ≡ false → (parts : Cut)
-        → ExactBy (record { ends = ends; from = a; link = link; parts = parts }) (outOfService plan a link parts)
+    pub out-exactly : (ends answers : Bool) (path link : ℕ) → link < 32 → short (a .reports) ≡ false → (parts : Cut)
+        → ExactBy (record { ends = ends; from = a; link = link; parts = parts; answers = answers; path = path }) (outOfService plan a link parts)
     unfolding outOfService
-    out-exactly ends link h wide parts =
+    out-exactly ends answers path link h wide parts =
         record {
           ended =
               ended-exactly plan (a .links) (a .marks) (a .rows) octets link h parts (stateOf a 0) (regular .store)
@@ -112,7 +114,7 @@ module _ (plan : Plan) where
         (eqb-true reply 0 ends)
         in
         done-judged _ reply (outOfService plan a link (cutUnknown known)) ends
-        (out-exactly (eqb reply 0) link (link-within link (odd || short (a .reports)) (passed .0))
+        (out-exactly (eqb reply 0) false noLink link (link-within link (odd || short (a .reports)) (passed .0))
         (both-false odd (short (a .reports)) (both-false (leb 32 link) (odd || short (a .reports)) (passed .0) .1) .1)
         (cutUnknown known))
 
@@ -130,7 +132,7 @@ module _ (plan : Plan) where
         done-judged _ reply _ (is .0)
         (by-test (ExactBy (endingByFailure plan a link)) waits (outOfService plan a link cutNone) (openFailed plan a link)
         (λ e.
-        out-exactly (eqb reply 0 && waits) link (link-within link (short (a .reports)) (passed .0))
+        out-exactly (eqb reply 0 && waits) false noLink link (link-within link (short (a .reports)) (passed .0))
         (both-false (leb 32 link) (short (a .reports)) (passed .0) .1)
         cutNone)
         (λ e. absurd (true≢false (sym (is .1) ∙ e))))
@@ -162,6 +164,8 @@ module _ (plan : Plan) (a : Areas) (octets : List ℕ) (regular : RegularIn a oc
       let exact =
       out-exactly plan (withAnswer plan step a) octets (answer-regular a octets regular plan step)
       true
+      (step .answers && isMade plan (a .links) (a .marks) (a .spans) (a .arrivals) (step .draft))
+      (pathOf plan (a .links) (a .marks) (step .draft))
       (step .link)
       (bears (next .1) .0)
       (ap short (answer-reports a octets regular plan step) ∙ wide)

@@ -37,9 +37,9 @@ sent-queued known count regular =
 
 -- a cut that a queue can bear, with a reason to report
 abbrev pub Fits : Cut → ℕ → Type 0
-Fits parts count = (parts .retired ≤ count) × (parts .reason < 4)
+Fits parts count = (parts .retired + parts .dropped ≤ count) × (parts .reason < 4)
 
--- "F in range": no more than the sent ones are retired
+-- "F in range": no more than the sent ones are retired; else no more than they are dropped
 pub cut-fits : (known : LinkRecord) (count f : ℕ) → known .sent ≤ count → Fits (cutAt known f) count
 unfolding cutAt
 cut-fits known count f queued =
@@ -60,6 +60,6 @@ module _ (test : ℕ → Bool) (a : Areas) (octets : List ℕ) (regular : Regula
   ending-even plan link h room parts fits =
       record {
         one = long;
-        even = omega (arith, out-even test octets plan a (regular .store) link h room parts (fits .1) (fits .0));
+        even = omega (arith, out-even test octets plan a (regular .store) link h room parts (fits .1) (omega (arith, fits .0)));
         apart = out-kinds test octets plan a (regular .store) link h room parts (fits .1);
       }

@@ -16,6 +16,8 @@ use Rattle.area_links.specs.LinkRecords.{recordAt, withRecord}
 use Rattle.queue_rings.specs.Ring.{countOf}
 use Rattle.queue_store.specs.Sound.{tally}
 use Rattle.reports.specs.Report.{log, short, room}
+use Rattle.wire_messages.specs.declared.management.Message.the-variants.{CBD}
+use Rattle.wire_messages.specs.Management.{headingOf}
 use Rattle.replies.specs.Reply.{first, done}
 use Rattle.replies.specs.Areas.{Areas, areas, Outcome, outcome, judged}
 use Rattle.lookup.specs.Lookup.{isLink, slcOf, adjacentOf}
@@ -40,7 +42,7 @@ use Rattle.constants.specs.Constants.{t6}
 use Rattle.rerouting.specs.Timer.{replyT6, expiredT6, expiredT10}
 use Rattle.rerouting_expiry.specs.Expiry.{replyT10, testOf}
 use Rattle.rerouting_expiry.specs.Expiry as Expiry
-use Rattle.acknowledging.specs.Acknowledge.{outOfRange, isOpen, bInRange}
+use Rattle.acknowledging.specs.Acknowledge.{outOfRange, linkOpen, bInRange}
 use Rattle.acknowledging.specs.Acknowledge as Acknowledge
 use Rattle.acknowledging.proofs.Window.{retired-and-left}
 use Rattle.promise_runs.proofs.Outcomes.{RegularIn, by-test, if-both-done, rows-passed, link-within}
@@ -91,10 +93,12 @@ module _ (test : ℕ → Bool) (a : Areas) (octets : List ℕ) (regular : Regula
         unjudged-even test a long (Overdue.replyOf plan (a .links) link timer (a .reports)) _
         (λ done.
         let passed = rows-passed (leb 32 link || (odd || short (a .reports))) (not (isLink plan link)) (not (eqb (known .timer) timer)) [] done in
-        ending-even test a octets regular long plan link (link-within link (odd || short (a .reports)) (passed .0))
+        let within = link-within link (odd || short (a .reports)) (passed .0) in
+        let queued = sent-queued known (countOf (a .spans) link) (regular .each-link link within) in
+        ending-even test a octets regular long plan link within
         (both-false odd (short (a .reports)) (both-false (leb 32 link) (odd || short (a .reports)) (passed .0) .1) .1)
         (cutUnknown known)
-        (omega arith, omega arith))
+        (omega (arith, queued), omega arith))
 
     -- a link comes into service: its CBD is held
     abbrev from : Sources
@@ -104,11 +108,11 @@ module _ (test : ℕ → Bool) (a : Areas) (octets : List ℕ) (regular : Regula
     unfolding declared
     declared-even =
         by-test (λ (now : Held). Even test a (withHeld a now) 0) (declares from)
-        (joined a octets regular (from .own) 0x51 (adjacentOf plan link) (slcOf plan link) (from .own))
+        (joined a octets regular (from .own) (headingOf (CBD (from .own))) (adjacentOf plan link) (slcOf plan link) (from .own))
         (heldIn a)
         (λ e.
         let h = ltb-true (from .own) 32 e in
-        joined-even a octets regular test long (from .own) (omega arith) 0x51 (adjacentOf plan link) (slcOf plan link) (from .own))
+        joined-even a octets regular test long (from .own) (omega arith) (headingOf (CBD (from .own))) (adjacentOf plan link) (slcOf plan link) (from .own))
         (λ e. even-none test a long)
 
     pub service-even : EvenBy test a (intoService plan a link) []
@@ -154,7 +158,7 @@ module _ (test : ℕ → Bool) (a : Areas) (octets : List ℕ) (regular : Regula
   within : (link b : ℕ) → Acknowledge.replyOf plan (a .links) link b ≡ 0 → link < 32
   unfolding Acknowledge.replyOf
   within link b done =
-      let passed = rows-passed (outOfRange link b) (not (isLink plan link)) (not (isOpen (a .links) link)) _ done in
+      let passed = rows-passed (outOfRange link b) (not (isLink plan link)) (not (linkOpen (a .links) link)) _ done in
       link-within link (leb 128 b) (passed .0)
 
   -- an acknowledgement: "Messages up to B are retired"

@@ -14,7 +14,8 @@ use Rattle.replies.specs.Areas.{Areas}
 use Rattle.route_choice.specs.Which.{none}
 use Rattle.route_ways.specs.Way.{forManagement}
 use Rattle.queue_heads.specs.Head.{Queues, both}
-use Rattle.queue_joining.specs.Queue.{managementReply, managementQueues, managementRow, managementArrivals, counted}
+use Rattle.queue_joining.specs.Queue.{managementReply, managementQueues, rowsWithManagement, managementArrivals, counted}
+use Rattle.wire_messages.specs.Management.{headingOf, fieldOf}
 use Rattle.management_making.specs.declared.Draft.{Draft}
 use Rattle.management_making.specs.Make.{Held, held, pathOf, hasPath, made, heldIn, withHeld, withMade}
 use Rattle.promise_runs.proofs.Carrying.{way-carries}
@@ -44,7 +45,7 @@ module _ (a : Areas) (octets : List ℕ) (regular : RegularIn a octets) where
   joined ring heading point slc field =
       record {
         queues = managementQueues queues (a .arrivals) ring;
-        rows = managementRow queues (a .arrivals) (a .rows) heading point slc field;
+        rows = rowsWithManagement queues (a .arrivals) (a .rows) heading point slc field;
         arrivals = managementArrivals (a .spans) (a .arrivals);
       }
 
@@ -70,11 +71,11 @@ module _ (a : Areas) (octets : List ℕ) (regular : RegularIn a octets) where
       unfolding made
       made-even =
           by-test (λ (now : Held). Even test a (withHeld a now) 0) (hasPath plan (a .links) (a .marks) draft)
-          (joined path (draft .heading) (draft .point) (draft .slc) (draft .field))
+          (joined path (headingOf (draft .message)) (draft .point) (draft .slc) (fieldOf (draft .message)))
           (heldIn a)
           (λ e.
           let h = ltb-true path none e in
-          joined-even path (omega arith) (draft .heading) (draft .point) (draft .slc) (draft .field))
+          joined-even path (omega arith) (headingOf (draft .message)) (draft .point) (draft .slc) (fieldOf (draft .message)))
           (λ e. even-none test a long)
 
   module _ (plan : Plan) (draft : Draft) where
@@ -86,7 +87,7 @@ module _ (a : Areas) (octets : List ℕ) (regular : RegularIn a octets) where
     unfolding made pathOf
     made-more link h =
         by-test (λ (now : Held). countOf (a .spans) link ≤ countOf (now .queues .spans) link) (hasPath plan (a .links) (a .marks) draft)
-        (joined there (draft .heading) (draft .point) (draft .slc) (draft .field))
+        (joined there (headingOf (draft .message)) (draft .point) (draft .slc) (fieldOf (draft .message)))
         (heldIn a)
         (λ e.
         let within = ltb-true there none e in
@@ -96,8 +97,8 @@ module _ (a : Areas) (octets : List ℕ) (regular : RegularIn a octets) where
           not-out = way-carries plan (a .links) (a .marks) (forManagement (draft .never)) (draft .point) (draft .slc);
         }
         in
-        management-kept (a .links) queues (a .rows) octets (regular .store) (a .arrivals) there goes (draft .heading) (draft .point) (draft .slc)
-        (draft .field) .grows .no-less
+        management-kept (a .links) queues (a .rows) octets (regular .store) (a .arrivals) there goes (headingOf (draft .message)) (draft .point) (draft .slc)
+        (fieldOf (draft .message)) .grows .no-less
         link
         h
         (λ same. omega arith))
@@ -111,13 +112,13 @@ module _ (a : Areas) (octets : List ℕ) (regular : RegularIn a octets) where
         by-test
         (λ (now : Held). take many (queueOf (withHeld a now) link) ≡ take many (queueOf a link))
         (hasPath plan (a .links) (a .marks) draft)
-        (joined there (draft .heading) (draft .point) (draft .slc) (draft .field))
+        (joined there (headingOf (draft .message)) (draft .point) (draft .slc) (fieldOf (draft .message)))
         (heldIn a)
         (λ e.
         let within = ltb-true there none e in
-        management-first (a .rows) octets queues (regular .store) (a .arrivals) there (omega arith) (draft .heading) (draft .point)
+        management-first (a .rows) octets queues (regular .store) (a .arrivals) there (omega arith) (headingOf (draft .message)) (draft .point)
         (draft .slc)
-        (draft .field)
+        (fieldOf (draft .message))
         link
         many
         h

@@ -55,7 +55,7 @@ module _ (test : ℕ → Bool) (a : Areas) (octets : List ℕ) (regular : Regula
         (omega (arith, is .1 .0), is .1 .1)
         in
         let same : tally test (upToF answered (step .link) (step .parts)) ≡ tally test (upToF a (step .link) (step .parts)) =
-        ap (tally test) (answer-before a octets regular plan step (step .link) (step .parts .retired) (omega (arith, is .0)) (is .1 .0))
+        ap (tally test) (answer-before a octets regular plan step (step .link) (step .parts .retired) (omega (arith, is .0)) (omega (arith, is .1 .0)))
         in
         record {
           one = last .one;

@@ -115,7 +115,7 @@ module _ (test : ℕ → Bool) (a : Areas) (octets : List ℕ) (regular : Regula
   host-even size Foreign small = refused-even test a long 4
   host-even size Delivered small = refused-even test a long 3
   host-even size (Managed order) small = refused-even test a long 3
-  host-even size (Passed label) small = offered-even label size small
+  host-even size (Passed label) small = offered-even label size (small .1)
 
   pub sent-even : (message : List ℕ) → EvenBy test a (sent plan message a) []
   unfolding sent

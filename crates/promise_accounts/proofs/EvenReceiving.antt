@@ -114,7 +114,7 @@ module _ (test : ℕ → Bool) (a : Areas) (octets : List ℕ) (regular : Regula
     came-even room kinds size Foreign small = untold test a 4 a (even-none test a long)
     came-even room kinds size Delivered small = even-none test a long
     came-even room kinds size (Managed order) small = managed-even room (order .point) (order .slc) (order .message)
-    came-even room kinds size (Passed label) small = passed-even test a octets regular long kinds plan arriving label size small
+    came-even room kinds size (Passed label) small = passed-even test a octets regular long kinds plan arriving label size (small .1)
 
     pub received-even : KindsIn test a → (message : List ℕ)
         → EvenBy test a (received plan arriving fsn message a)

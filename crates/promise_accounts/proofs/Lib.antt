@@ -13,3 +13,4 @@ pub mod EvenCalls
 pub mod OnePlace
 pub mod Endings
 pub mod Starting
+pub mod TakingOut

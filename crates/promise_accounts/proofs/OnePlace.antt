@@ -24,9 +24,9 @@ use Rattle.start.specs.Start.{freshSpans, freshRings, freshArrivals}
 use Rattle.node.specs.Memory.{Memory}
 use Rattle.node.specs.View.{viewOf}
 use Rattle.node.specs.Call.{callOf}
-use Rattle.promise_runs.specs.Run.{Call, lent, called, ran, fresh}
+use Rattle.promise_runs.specs.Run.{Call, lent, called, ran, fresh, Whole}
 use Rattle.promise_runs.proofs.KeepsCalls.{RegularAt, call-regular}
-use Rattle.promise_runs.proofs.Reached.{Whole, fresh-regular}
+use Rattle.promise_runs.proofs.Reached.{fresh-regular}
 use Rattle.promise_ledger.specs.Held.{arrivalOf, numbers, heldOf, givenOf}
 use Rattle.promise_accounts.specs.Gone.{Gone, nothingGone, goneBy, goneIn, placesOf, nextIn, OnePlace, acknowledgedBy, retiredBy, droppedBy}
 use Rattle.promise_accounts.proofs.Even.{heldIn}
@@ -39,7 +39,7 @@ tally-on test [] next = omega arith
 tally-on test (number ∷ later) next = omega (arith, tally-on test later next)
 
 -- a number below the next is one of those given, and one that isn't is none
-given-once : (number next : ℕ) → number < next → sum (λ n. bit (is number n)) next ≡ 1
+pub given-once : (number next : ℕ) → number < next → sum (λ n. bit (is number n)) next ≡ 1
 unfolding sum
 given-once number zero h = absurd (omega arith)
 given-once number (suc next) h =
@@ -53,7 +53,7 @@ given-once number (suc next) h =
     let before = given-once number next (omega (arith, other)) in
     omega arith)
 
-given-none : (number next : ℕ) → next ≤ number → sum (λ n. bit (is number n)) next ≡ 0
+pub given-none : (number next : ℕ) → next ≤ number → sum (λ n. bit (is number n)) next ≡ 0
 given-none number next h = sum-none (λ n. bit (is number n)) next (λ n below. simp (ne-eqb n number (λ e. omega arith)))
 
 -- every number that is given is accounted for

@@ -1,4 +1,4 @@
--- A message for another point has at most 273 octets: a longer one is malformed.
+-- A message for another point has 5 to 273 octets: a shorter or a longer one is malformed.
 -- Assumes nothing.
 use mathlib.Core.Path.{_≡_}
 use mathlib.Core.Bool.{true, _&&_, and-eq-true-iff}
@@ -16,15 +16,15 @@ use Rattle.discrimination.specs.declared.Came.the-variants.{Malformed, Foreign,
 use Rattle.discrimination.specs.Discrimination.{fromLinkBy, fromLink, fromHostBy, fromHost}
 use Rattle.promise_runs.proofs.Outcomes.{by-test}
 
--- one that is passed on has a size that a slot has room for
+-- one that is passed on has a size that a message has and a slot has room for
 unfoldable pub Small : Came → ℕ → Type 0
 Small Malformed size = Unit {0}
 Small Foreign size = Unit {0}
 Small Delivered size = Unit {0}
 Small (Managed order) size = Unit {0}
-Small (Passed label) size = size ≤ 273
+Small (Passed label) size = (5 ≤ size) × (size ≤ 273)
 
-all-small : (size : ℕ) → size ≤ 273 → (came : Came) → Small came size
+all-small : (size : ℕ) → (5 ≤ size) × (size ≤ 273) → (came : Came) → Small came size
 unfolding Small
 all-small size h Malformed = tt
 all-small size h Foreign = tt
@@ -33,8 +33,10 @@ all-small size h (Managed order) = tt
 all-small size h (Passed label) = h
 
 module _ (plan : Plan) (message : List ℕ) where
-  within : (leb 5 (length message) && leb (length message) 273) ≡ true → length message ≤ 273
-  within e = leb-true (length message) 273 (and-eq-true-iff (leb 5 (length message)) (leb (length message) 273) .0 e .1)
+  within : (leb 5 (length message) && leb (length message) 273) ≡ true → (5 ≤ length message) × (length message ≤ 273)
+  within e =
+      let two = and-eq-true-iff (leb 5 (length message)) (leb (length message) 273) .0 e in
+      (leb-true 5 (length message) (two .0), leb-true (length message) 273 (two .1))
 
   -- from a link
   pub link-small : Small (fromLink plan message) (length message)

@@ -1,10 +1,13 @@
 -- Where a link goes out, its answer stands before all that moves, and its own queue is still as it was.
 -- Assumes nothing.
-use mathlib.Core.Path.{_≡_, refl, sym}
+use mathlib.Core.Path.{_≡_, refl, sym, ap, _∙_}
 use mathlib.Core.Bool.{true, cond, _&&_, and-eq-true-iff}
 use mathlib.Core.List.{List, [], _++_, append-nil}
 use Prim.Native.Nat.{ℕ, _<_}
+use native.Mathlib.Omega.{arith}
 use lib.Dec.{eqb, ltb}
+use lib.ListN.{length, drop}
+use lib.Seq.{drop-length, drop-append-seam}
 use Rattle.plan.specs.declared.data.Plan.{Plan}
 use Rattle.area_links.specs.declared.LinkRecord.{LinkRecord}
 use Rattle.area_links.specs.LinkRecords.{recordAt}
@@ -30,13 +33,13 @@ use Rattle.receiving.specs.Receive as Receive
 use Rattle.node.specs.View.{View, Comes, Fails, Sends, Acknowledges, Arrives, HandedOver, Overdue, Expires}
 use Rattle.promise_runs.proofs.Outcomes.{RegularIn, by-test, unmet}
 use Rattle.promise_accounts.specs.Gone.{queueOf}
-use Rattle.promise_accounts.specs.Ending.{Ending, noEnding, endingByTimer, endingByFailure, endingByStep, endingByMessage, endingOf, Starts}
-use Rattle.promise_accounts.proofs.Answers.{answer-joined, answer-never}
+use Rattle.promise_accounts.specs.Ending.{Ending, noEnding, endingByTimer, endingByFailure, endingByStep, endingByMessage, endingOf, answeredOn, Starts}
+use Rattle.promise_accounts.proofs.Answers.{answer-joined, answer-apart, answer-never}
 use Rattle.promise_accounts.proofs.Bearing.{Bears, asked-bears}
 use Rattle.promise_accounts.proofs.EvenEnding.{sent-queued}
 
 -- an answer to a message that ends a changeover never uses the link
-abbrev Spares : Step → Type 0
+abbrev pub Spares : Step → Type 0
 Spares step = step .ends ≡ true → step .answers ≡ true → step .draft .never ≡ step .link
 
 order-spares : (known : LinkRecord) (link : ℕ) (own emergency : Draft) (parts : Cut) → own .never ≡ link
@@ -59,18 +62,18 @@ module _ (plan : Plan) (links marks : List ℕ) (arriving fsn point slc : ℕ) w
   abbrev known : LinkRecord
   known = recordAt links link
 
-  asked-spares : (message : Message) → Spares (stepAsked plan links marks arriving fsn point slc message)
+  pub asked-spares : (message : Message) → Spares (stepAsked plan links marks arriving fsn point slc message)
   unfolding asked askCOO askCOA askCBD askECO askECA askRST emergencyOf
   asked-spares (COO f) =
       by-test Spares (ltb link 32)
-      (orderStep known link (draft 0x21 point slc (lastReceived links arriving fsn link) link) (emergencyOf point slc link) (cutAt known f))
+      (orderStep known link (draft (COA (lastReceived links arriving fsn link)) point slc link) (emergencyOf point slc link) (cutAt known f))
       nothing
       (λ e.
-      order-spares known link (draft 0x21 point slc (lastReceived links arriving fsn link) link) (emergencyOf point slc link) (cutAt known f) refl)
+      order-spares known link (draft (COA (lastReceived links arriving fsn link)) point slc link) (emergencyOf point slc link) (cutAt known f) refl)
       (λ e. unmet)
   asked-spares (COA f) = ack-spares link known (cutAt known f)
   asked-spares (CBD code) =
-      by-test Spares (ltb link 32) (answer (draft 0x61 point slc code 32)) nothing (λ e. unmet) (λ e. unmet)
+      by-test Spares (ltb link 32) (answer (draft (CBA code) point slc 32)) nothing (λ e. unmet) (λ e. unmet)
   asked-spares (CBA code) = unmet
   asked-spares ECO =
       by-test Spares (ltb link 32)
@@ -82,22 +85,31 @@ module _ (plan : Plan) (links marks : List ℕ) (arriving fsn point slc : ℕ) w
   asked-spares (TFP x) = unmet
   asked-spares (TFA x) = unmet
   asked-spares (RST x) =
-      by-test Spares (allows plan links marks point x) (answer (draft 0x54 point 0 x 32)) nothing (λ e. unmet) (λ e. unmet)
+      by-test Spares (allows plan links marks point x) (answer (draft (TFA x) point 0 32)) nothing (λ e. unmet) (λ e. unmet)
+
+-- a list that is as it was has nothing behind it
+none-new : (list new : List ℕ) → list ++ new ≡ list → new ≡ []
+none-new list new same = sym (drop-append-seam list new) ∙ ap (drop (length list)) same ∙ drop-length list
 
 module _ (plan : Plan) (a : Areas) (octets : List ℕ) (regular : RegularIn a octets) where
   -- nothing is made before it
-  unchanged : (other : ℕ) → other < 33 → (new : List ℕ) × (queueOf a other ≡ queueOf a other ++ new)
-  unchanged other h = ([], sym (append-nil (queueOf a other)))
+  unchanged : (ring : ℕ) → ring < 33 → queueOf a ring ≡ queueOf a ring ++ []
+  unchanged ring h = sym (append-nil (queueOf a ring))
 
   step-starts : (step : Step) → Bears (countOf (a .spans)) step → Spares step
       → endingByStep plan a step .ends ≡ true
       → Starts a (endingByStep plan a step)
-  unfolding endingByStep
+  unfolding endingByStep answeredOn
   step-starts step bears spares ends =
       let first = and-eq-true-iff (eqb (step .reply) 0) (eqb (answerReply plan step a) 0 && step .ends) .0 ends in
       let next = and-eq-true-iff (eqb (answerReply plan step a) 0) (step .ends) .0 (first .1) in
+      let h = bears (next .1) .0 in
+      let own = answer-never a octets regular plan step (step .link) h (spares (next .1)) in
       record {
-        own = answer-never a octets regular plan step (step .link) (bears (next .1) .0) (spares (next .1));
+        own = own;
+        never-own =
+            none-new (queueOf a (step .link)) _ (sym (answer-joined a octets regular plan step (step .link) (omega (arith, h))) ∙ own);
+        never-apart = answer-apart a octets regular plan step;
         others = answer-joined a octets regular plan step;
       }
 
@@ -122,7 +134,7 @@ module _ (plan : Plan) (a : Areas) (octets : List ℕ) (regular : RegularIn a oc
   -- by every kind of event
   pub ending-starts : (message : List ℕ) (view : View) → endingOf plan a message view .ends ≡ true
       → Starts a (endingOf plan a message view)
-  unfolding endingOf endingByTimer endingByFailure
+  unfolding endingOf endingByTimer endingByFailure answeredOn
   ending-starts message (Arrives link fsn) ends =
       by-test (λ (e : Ending). e .ends ≡ true → Starts a e) (eqb (Receive.replyOf plan (a .links) link fsn (a .reports)) 0)
       (endingByMessage plan a link fsn (fromLink plan message))
@@ -130,8 +142,8 @@ module _ (plan : Plan) (a : Areas) (octets : List ℕ) (regular : RegularIn a oc
       (λ done. message-starts link fsn (fromLink plan message))
       (λ refused. unmet)
       ends
-  ending-starts message (Fails link) ends = record { own = refl; others = unchanged }
-  ending-starts message (Overdue link timer) ends = record { own = refl; others = unchanged }
+  ending-starts message (Fails link) ends = record { own = refl; never-own = refl; never-apart = refl; others = unchanged }
+  ending-starts message (Overdue link timer) ends = record { own = refl; never-own = refl; never-apart = refl; others = unchanged }
   ending-starts message (Comes link) ends = unmet ends
   ending-starts message (Sends link) ends = unmet ends
   ending-starts message (Acknowledges link b) ends = unmet ends

@@ -2,15 +2,17 @@
 -- stop after the COA or ECA is queued, which never uses this link, and before anything moves." (R131, R132, R133)
 use Prim.Native.Nat.{ℕ, _<_}
 use mathlib.Core.Path.{_≡_}
-use mathlib.Core.Bool.{Bool, false, _&&_}
-use mathlib.Core.List.{List, _++_}
+use mathlib.Core.Bool.{Bool, true, false, cond, _&&_}
+use mathlib.Core.List.{List, [], _∷_, _++_}
 use lib.Dec.{eqb}
-use Rattle.constants.specs.Constants.{noLink, stateOut, stateWaiting}
+use Rattle.constants.specs.Constants.{noLink, apartRing, stateOut, stateWaiting}
 use Rattle.plan.specs.declared.data.Plan.{Plan}
 use Rattle.area_links.specs.LinkRecords.{recordAt}
 use Rattle.replies.specs.Reply.{ifDone}
 use Rattle.replies.specs.Areas.{Areas}
 use Rattle.queue_retiring.specs.Leave.{State, state}
+use Rattle.queue_joining.specs.Queue.{nextOf}
+use Rattle.management_making.specs.Make.{pathOf, isMade}
 use Rattle.changeover_cuts.specs.declared.Cut.{Cut}
 use Rattle.changeover_cuts.specs.Cuts.{cutNone, cutUnknown}
 use Rattle.changeover_failure.specs.Failure as Failure
@@ -32,10 +34,13 @@ pub record Ending : Type 0 where
   pub from : Areas
   pub link : ℕ
   pub parts : Cut
+  -- whether an answer is queued before it, and on which link
+  pub answers : Bool
+  pub path : ℕ
 
 -- no link goes out
 abbrev pub noEnding : Areas → Ending
-noEnding a = record { ends = false; from = a; link = noLink; parts = cutNone }
+noEnding a = record { ends = false; from = a; link = noLink; parts = cutNone; answers = false; path = noLink }
 
 -- "T1 or T2 expiry" (R127): of a link whose timer runs
 unfoldable pub endingByTimer : Plan → Areas → ℕ → ℕ → Ending
@@ -45,6 +50,8 @@ endingByTimer plan a link timer =
       from = a;
       link = link;
       parts = cutUnknown (recordAt (a .links) link);
+      answers = false;
+      path = noLink;
     }
 
 -- "Failure of a waiting link: out, its timers stop, its queue moves at once." (R115, R116)
@@ -55,6 +62,8 @@ endingByFailure plan a link =
       from = a;
       link = link;
       parts = cutNone;
+      answers = false;
+      path = noLink;
     }
 
 -- COO, COA, ECO, ECA: by the step that the message asks, with its answer queued; the message is taken after it (R119)
@@ -65,6 +74,8 @@ endingByStep plan a step =
       from = withAnswer plan step a;
       link = step .link;
       parts = step .parts;
+      answers = step .answers && isMade plan (a .links) (a .marks) (a .spans) (a .arrivals) (step .draft);
+      path = pathOf plan (a .links) (a .marks) (step .draft);
     }
 
 -- by what a message from a link is
@@ -87,6 +98,10 @@ endingOf plan a message (Acknowledges link b) = noEnding a
 endingOf plan a message HandedOver = noEnding a
 endingOf plan a message Expires = noEnding a
 
+-- it takes that link out
+abbrev pub TakesOut : Ending → ℕ → Type 0
+TakesOut ending link = (ending .ends ≡ true) × (ending .link ≡ link)
+
 -- the queues and the reports of areas, so many records written
 abbrev pub stateOf : Areas → ℕ → State
 stateOf a reports = state (a .spans) (a .rings) (a .reports) reports
@@ -101,8 +116,14 @@ pub record Exactly (plan : Plan) (ending : Ending) (after : Areas) (reports : �
   pub rows-same : after .rows ≡ ending .from .rows
   pub arrivals-same : after .arrivals ≡ ending .from .arrivals
 
--- before it the link's own queue is as it was, since the answer never uses this link, and every other has at most the answer behind what
--- it had: "COO is answered with COA, queued before anything moves." (R123, R124)
+-- the answer as a queue gains it: with the next arrival number, on its path, and on no other queue (R123, R128, R20)
+unfoldable pub answeredOn : Areas → Ending → ℕ → List ℕ
+answeredOn a ending ring = cond (ending .answers && eqb ring (ending .path)) (nextOf (a .arrivals) ∷ []) []
+
+-- before it the link's own queue is as it was, since the answer never uses this link, and so are those held apart; every other has the answer
+-- behind what it had, if it is that of the answer's path: "COO is answered with COA, queued before anything moves." (R123, R124, R132)
 pub record Starts (a : Areas) (ending : Ending) : Type 0 where
   pub own : queueOf (ending .from) (ending .link) ≡ queueOf a (ending .link)
-  pub others : (other : ℕ) → other < 33 → (new : List ℕ) × (queueOf (ending .from) other ≡ queueOf a other ++ new)
+  pub never-own : answeredOn a ending (ending .link) ≡ []
+  pub never-apart : answeredOn a ending apartRing ≡ []
+  pub others : (ring : ℕ) → ring < 33 → queueOf (ending .from) ring ≡ queueOf a ring ++ answeredOn a ending ring

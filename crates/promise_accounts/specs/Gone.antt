@@ -28,7 +28,7 @@ use Rattle.node.specs.Memory.{Memory, Result}
 use Rattle.node.specs.Call.{callOf}
 use Rattle.promise_runs.specs.Run.{Call, lent, called}
 use Rattle.promise_ledger.specs.Held.{numbers, heldOf, givenOf}
-use Rattle.promise_ledger.specs.Reported.{reportsIn, dropsOf}
+use Rattle.promise_ledger.specs.Reported.{Report, reportsIn, dropsOf}
 
 -- a link's queue by arrival numbers, first to last
 abbrev pub queueOf : Areas → ℕ → List ℕ
@@ -80,9 +80,13 @@ retiredBy plan a message HandedOver = []
 retiredBy plan a message (Overdue link timer) = []
 retiredBy plan a message Expires = []
 
--- those that a call reports dropped, in the area that was lent to it
+-- the records that a call wrote: the first of the area that was lent to it, as many as the answer counts (R219)
+abbrev pub toldBy : Result → List Report
+toldBy r = reportsIn (r .after .areas .reports) (r .answer .reports)
+
+-- those that it reports dropped
 abbrev pub droppedBy : Result → List ℕ
-droppedBy r = dropsOf (reportsIn (r .after .areas .reports) (r .answer .reports))
+droppedBy r = dropsOf (toldBy r)
 
 -- what has gone, and how
 pub record Gone : Type 0 where

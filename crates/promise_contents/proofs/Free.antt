@@ -31,19 +31,24 @@ module _ (rows octets : List ℕ) where
   abbrev pub SoundIn : Queues → Type 0
   SoundIn queues = Sound (queues .spans) (queues .rings) rows octets
 
-  -- the store is sound, and what was free is free
-  pub record Freer (before after : Queues) : Type 0 where
+  -- the store is sound, what was free is free, and no ring but one has lost a slot
+  pub record Freer (from : ℕ) (before after : Queues) : Type 0 where
     pub sound : SoundIn after
     pub free : (slot : ℕ) → freeIn before slot ≤ freeIn after slot
+    pub others : (slot ring : ℕ) → (ring ≡ from → ⊥) → standsIn before slot ring ≤ standsIn after slot ring
 
   -- nothing happens
-  pub freer-none : (queues : Queues) → SoundIn queues → Freer queues queues
-  freer-none queues sound = record { sound = sound; free = λ slot. omega arith }
+  pub freer-none : (from : ℕ) (queues : Queues) → SoundIn queues → Freer from queues queues
+  freer-none from queues sound = record { sound = sound; free = λ slot. omega arith; others = λ slot ring apart. omega arith }
 
   -- one after the other
-  pub freer-on : (first next last : Queues) → Freer first next → Freer next last → Freer first last
-  freer-on first next last earlier later =
-      record { sound = later .sound; free = λ slot. omega (arith, earlier .free slot, later .free slot) }
+  pub freer-on : (from : ℕ) (first next last : Queues) → Freer from first next → Freer from next last → Freer from first last
+  freer-on from first next last earlier later =
+      record {
+        sound = later .sound;
+        free = λ slot. omega (arith, earlier .free slot, later .free slot);
+        others = λ slot ring apart. omega (arith, earlier .others slot ring apart, later .others slot ring apart);
+      }
 
   module _ (queues : Queues) (sound : SoundIn queues) where
     -- a ring loses no slot by a move from another
@@ -76,7 +81,7 @@ module _ (rows octets : List ℕ) where
         (λ gone. omega (arith, ap (λ (q : Queues). standsIn q slot ring) (moved-none queues from to gone)))
 
     -- the head of a queue goes anywhere
-    pub freer-move : (from to : ℕ) → from < 33 → to < 35 → Freer queues (moved queues from to)
+    pub freer-move : (from to : ℕ) → from < 33 → to < 35 → Freer from queues (moved queues from to)
     freer-move from to h k =
         record {
           sound = move-sound queues rows octets sound from to k;
@@ -87,10 +92,11 @@ module _ (rows octets : List ℕ) where
                 ring-stays from to k slot 33 (λ e. omega arith),
                 ring-stays from to k slot 34 (λ e. omega arith),
               );
+          others = ring-stays from to k;
         }
 
     -- it is given up
-    pub freer-freed : (ring : ℕ) → ring < 33 → Freer queues (freed queues ring)
+    pub freer-freed : (ring : ℕ) → ring < 33 → Freer ring queues (freed queues ring)
     unfolding freed
     freer-freed ring h = freer-move ring (freeRing (headOf queues ring .slot)) h (free-there (headOf queues ring .slot))
 

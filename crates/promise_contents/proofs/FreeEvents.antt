@@ -1,11 +1,12 @@
--- A slot that is free stays free, or gets a new number: by nothing, and by a link that goes out.
+-- A slot has the row that it had and is free if it was, or what is new is written there: by nothing, and by a link that goes out.
 -- Assumes nothing.
-use mathlib.Core.Path.{_≡_}
+use mathlib.Core.Path.{_≡_, refl}
 use mathlib.Core.Logic.{_⊎_, inl, inr, ⊎-elim}
 use mathlib.Core.List.{List}
 use Prim.Native.Nat.{ℕ, _≤_, _<_}
 use native.Mathlib.Omega.{arith}
 use Rattle.plan.specs.declared.data.Plan.{Plan}
+use Rattle.area_slots.specs.SlotRows.{slotAt}
 use Rattle.replies.specs.Areas.{Areas, Outcome, judged, refused}
 use Rattle.queue_heads.specs.Head.{Queues, both}
 use Rattle.queue_retiring.specs.Leave.{State, state, retired, dropped}
@@ -13,7 +14,7 @@ use Rattle.queue_joining.specs.Queue.{nextOf}
 use Rattle.changeover_cuts.specs.declared.Cut.{Cut}
 use Rattle.changeover_ending.specs.End.{linksOut, cleared, ended, outOfService}
 use Rattle.promise_runs.proofs.Outcomes.{RegularIn, if-done}
-use Rattle.promise_ledger.specs.Held.{arrivalOf}
+use Rattle.promise_contents.specs.Made.{New, Written}
 use Rattle.promise_contents.proofs.Free.{freeIn, Freer, freer-on}
 use Rattle.promise_contents.proofs.FreeMoving.{freer-retired, freer-dropped, freer-moved}
 
@@ -21,36 +22,43 @@ use Rattle.promise_contents.proofs.FreeMoving.{freer-retired, freer-dro
 abbrev pub queuesIn : Areas → Queues
 queuesIn a = both (a .spans) (a .rings)
 
--- a slot stays free, or gets a new number
-abbrev pub StaysAt : ℕ → Queues → Queues → List ℕ → ℕ → Type 0
-StaysAt next before after rows slot = (freeIn before slot ≤ freeIn after slot) ⊎ (next ≤ arrivalOf rows slot)
+-- a slot has the row that it had, and is free if it was
+abbrev pub StillAt : Queues → Queues → List ℕ → List ℕ → ℕ → Type 0
+StillAt before after rows rows′ slot = (slotAt rows′ slot ≡ slotAt rows slot) × (freeIn before slot ≤ freeIn after slot)
+
+-- or what is new is written there, with the next number
+abbrev pub StaysAt : New → ℕ → Queues → Queues → List ℕ → List ℕ → ℕ → Type 0
+StaysAt new next before after rows rows′ slot =
+    StillAt before after rows rows′ slot ⊎ Written new next slot (slotAt rows′ slot)
 
 -- every slot does
-abbrev pub Stays : Areas → Areas → Type 0
-Stays a b = (slot : ℕ) → slot < 256 → StaysAt (nextOf (a .arrivals)) (queuesIn a) (queuesIn b) (b .rows) slot
+abbrev pub Stays : New → Areas → Areas → Type 0
+Stays new a b = (slot : ℕ) → slot < 256 → StaysAt new (nextOf (a .arrivals)) (queuesIn a) (queuesIn b) (a .rows) (b .rows) slot
 
 -- nothing happens
-pub stays-none : (a : Areas) → Stays a a
-stays-none a slot h = inl (omega arith)
+pub stays-none : (new : New) (a : Areas) → Stays new a a
+stays-none new a slot h = inl (refl, omega arith)
 
 -- done, or refused
-pub judged-stays : (a : Areas) (reply : ℕ) (does : Outcome) → (reply ≡ 0 → Stays a (does .after)) → Stays a (judged reply does a .after)
-judged-stays a reply does stays = if-done (λ (o : Outcome). Stays a (o .after)) reply does (refused reply a) stays (stays-none a)
+pub judged-stays : (new : New) (a : Areas) (reply : ℕ) (does : Outcome) → (reply ≡ 0 → Stays new a (does .after))
+    → Stays new a (judged reply does a .after)
+judged-stays new a reply does stays =
+    if-done (λ (o : Outcome). Stays new a (o .after)) reply does (refused reply a) stays (stays-none new a)
 
 -- with other queues that have the same slots free
-pub stays-freer : (next : ℕ) (before now after : Queues) (rows octets : List ℕ) → Freer rows octets now after
-    → ((slot : ℕ) → slot < 256 → StaysAt next before now rows slot)
-    → (slot : ℕ) → slot < 256 → StaysAt next before after rows slot
-stays-freer next before now after rows octets freer stays slot h =
-    ⊎-elim (λ (free : freeIn before slot ≤ freeIn now slot). inl (omega (arith, free, freer .free slot)))
-    (λ (newer : next ≤ arrivalOf rows slot). inr newer)
+pub stays-freer : (from : ℕ) (new : New) (next : ℕ) (before now after : Queues) (rows rows′ octets : List ℕ) → Freer rows′ octets from now after
+    → ((slot : ℕ) → slot < 256 → StaysAt new next before now rows rows′ slot)
+    → (slot : ℕ) → slot < 256 → StaysAt new next before after rows rows′ slot
+stays-freer from new next before now after rows rows′ octets freer stays slot h =
+    ⊎-elim (λ (still : StillAt before now rows rows′ slot). inl (still .0, omega (arith, still .1, freer .free slot)))
+    (λ (newer : Written new next slot (slotAt rows′ slot)). inr newer)
     (stays slot h)
 
--- a link goes out
-pub out-stays : (a b : Areas) (octets : List ℕ) → Stays a b → RegularIn b octets → (plan : Plan) (link : ℕ) → link < 33 → (parts : Cut)
-    → Stays a (outOfService plan b link parts .after)
+-- a link goes out: slots leave its ring alone
+pub out-freer : (b : Areas) (octets : List ℕ) → RegularIn b octets → (plan : Plan) (link : ℕ) → link < 33 → (parts : Cut)
+    → Freer (b .rows) octets link (queuesIn b) (queuesIn (outOfService plan b link parts .after))
 unfolding outOfService ended cleared
-out-stays a b octets stays regular plan link h parts =
+out-freer b octets regular plan link h parts =
     let rows : List ℕ = b .rows in
     let start : State = state (b .spans) (b .rings) (b .reports) 0 in
     let left : State = record { queues = retired link (parts .retired) (start .queues); log = start .log } in
@@ -58,8 +66,14 @@ out-stays a b octets stays regular plan link h parts =
     let one = freer-retired rows octets link h (parts .retired) (start .queues) (regular .store) in
     let two = freer-dropped rows octets link h (parts .reason) (parts .dropped) left (one .sound) in
     let three = freer-moved rows octets plan (linksOut (b .links) link) (b .marks) link h next (two .sound) in
-    let all =
-    freer-on rows octets (start .queues) (next .queues) _ (freer-on rows octets (start .queues) (left .queues) (next .queues) one two)
+    freer-on rows octets link (start .queues) (next .queues) _ (freer-on rows octets link (start .queues) (left .queues) (next .queues) one two)
     three
-    in
-    stays-freer (nextOf (a .arrivals)) (queuesIn a) (queuesIn b) _ rows octets all stays
+
+-- so the others stay
+pub out-stays : (new : New) (a b : Areas) (octets : List ℕ) → Stays new a b → RegularIn b octets → (plan : Plan) (link : ℕ) → link < 33
+    → (parts : Cut) → Stays new a (outOfService plan b link parts .after)
+unfolding outOfService
+out-stays new a b octets stays regular plan link h parts =
+    stays-freer link new (nextOf (a .arrivals)) (queuesIn a) (queuesIn b) _ (a .rows) (b .rows) octets
+    (out-freer b octets regular plan link h parts)
+    stays

@@ -18,7 +18,7 @@ use Rattle.queue_slots.specs.Write.{Write, slotOf, rowsWith, octetsWith}
 use Rattle.queue_slots.proofs.ReadBack.{user-read, management-read, row-kept, octets-kept, rows-length}
 use Rattle.replies.specs.Areas.{Areas}
 use Rattle.queue_heads.specs.Head.{Queues, headOf}
-use Rattle.queue_joining.specs.Queue.{nextOf, counted, userReply, userRow, userOctets, userArrivals, managementReply, managementRow, managementArrivals}
+use Rattle.queue_joining.specs.Queue.{nextOf, counted, userReply, rowsWithUser, userOctets, userArrivals, managementReply, rowsWithManagement, managementArrivals}
 use Rattle.promise_contents.specs.Content.{Content, content, Same, Newer, Kept}
 
 -- what is held in areas, with these octets
@@ -98,9 +98,9 @@ module _ (rows octets arrivals : List ℕ) where
       -- a user message is queued, or refused
       pub user-kept : (point sls : ℕ) (message : List ℕ)
           → Kept now
-          (content (userRow queues arrivals rows point sls (length message)) (userOctets queues arrivals octets message)
+          (content (rowsWithUser queues arrivals rows point sls (length message)) (userOctets queues arrivals octets message)
           (userArrivals (queues .spans) arrivals))
-      unfolding userRow userOctets userArrivals
+      unfolding rowsWithUser userOctets userArrivals
       user-kept point sls message =
           cases (eqb (userReply (queues .spans) arrivals) 0)
           (λ e. simp e (user-written (headOf queues 33 .slot) point sls message))
@@ -115,8 +115,8 @@ module _ (rows octets arrivals : List ℕ) where
       -- a management message is queued, or refused
       pub management-kept : (heading point slc field : ℕ)
           → Kept now
-          (content (managementRow queues arrivals rows heading point slc field) octets (managementArrivals (queues .spans) arrivals))
-      unfolding managementRow managementArrivals
+          (content (rowsWithManagement queues arrivals rows heading point slc field) octets (managementArrivals (queues .spans) arrivals))
+      unfolding rowsWithManagement managementArrivals
       management-kept heading point slc field =
           cases (eqb (managementReply (queues .spans) arrivals) 0)
           (λ e. simp e (management-written (headOf queues 34 .slot) heading point slc field))

@@ -7,6 +7,8 @@ use Prim.Native.Nat.{ℕ}
 use lib.Dec.{eqb}
 use lib.ListN.{length}
 use Rattle.plan.specs.declared.data.Plan.{Plan}
+use Rattle.wire_messages.specs.declared.management.Message.the-variants.{CBD}
+use Rattle.wire_messages.specs.Management.{headingOf}
 use Rattle.replies.specs.Reply.{done}
 use Rattle.replies.specs.Areas.{Areas, areas, Outcome, outcome, judged}
 use Rattle.lookup.specs.Lookup.{slcOf, adjacentOf}
@@ -69,9 +71,9 @@ module _ (plan : Plan) (a : Areas) (octets : List ℕ) (all : length (a .rows) �
   unfolding declared
   declared-kept link from =
       by-test (λ (then : Held). Kept now (content (then .rows) octets (then .arrivals))) (declares from)
-      (joined a octets all (from .own) 0x51 (adjacentOf plan link) (slcOf plan link) (from .own))
+      (joined a octets all (from .own) (headingOf (CBD (from .own))) (adjacentOf plan link) (slcOf plan link) (from .own))
       (heldIn a)
-      (λ e. joined-kept a octets all (from .own) 0x51 (adjacentOf plan link) (slcOf plan link) (from .own))
+      (λ e. joined-kept a octets all (from .own) (headingOf (CBD (from .own))) (adjacentOf plan link) (slcOf plan link) (from .own))
       (λ e. kept-none now)
 
   -- with the link in service

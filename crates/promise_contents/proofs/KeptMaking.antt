@@ -8,7 +8,8 @@ use Rattle.plan.specs.declared.data.Plan.{Plan}
 use Rattle.replies.specs.Reply.{done}
 use Rattle.replies.specs.Areas.{Areas, Outcome, outcome, judged, refused}
 use Rattle.queue_heads.specs.Head.{both}
-use Rattle.queue_joining.specs.Queue.{managementQueues, managementRow, managementArrivals}
+use Rattle.queue_joining.specs.Queue.{managementQueues, rowsWithManagement, managementArrivals}
+use Rattle.wire_messages.specs.Management.{headingOf, fieldOf}
 use Rattle.management_making.specs.declared.Draft.{Draft}
 use Rattle.management_making.specs.Make.{Held, pathOf, hasPath, made, heldIn, withMade}
 use Rattle.changeover_cuts.specs.declared.Cut.{Cut}
@@ -45,7 +46,7 @@ module _ (a : Areas) (octets : List ℕ) where
     joined ring heading point slc field =
         record {
           queues = managementQueues (both (a .spans) (a .rings)) (a .arrivals) ring;
-          rows = managementRow (both (a .spans) (a .rings)) (a .arrivals) (a .rows) heading point slc field;
+          rows = rowsWithManagement (both (a .spans) (a .rings)) (a .arrivals) (a .rows) heading point slc field;
           arrivals = managementArrivals (a .spans) (a .arrivals);
         }
 
@@ -63,9 +64,9 @@ module _ (a : Areas) (octets : List ℕ) where
       made-kept draft =
           let path = pathOf plan (a .links) (a .marks) draft in
           by-test (λ (then : Held). Kept now (content (then .rows) octets (then .arrivals))) (hasPath plan (a .links) (a .marks) draft)
-          (joined path (draft .heading) (draft .point) (draft .slc) (draft .field))
+          (joined path (headingOf (draft .message)) (draft .point) (draft .slc) (fieldOf (draft .message)))
           (heldIn a)
-          (λ e. joined-kept path (draft .heading) (draft .point) (draft .slc) (draft .field))
+          (λ e. joined-kept path (headingOf (draft .message)) (draft .point) (draft .slc) (fieldOf (draft .message)))
           (λ e. kept-none now)
 
       -- the answer that a step asks

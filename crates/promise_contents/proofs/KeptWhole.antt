@@ -13,8 +13,7 @@ use Rattle.node.specs.declared.call.Event.the-variants.{Send}
 use Rattle.node.specs.View.{viewOf}
 use Rattle.node.specs.Memory.{Memory}
 use Rattle.node.specs.Call.{callOf}
-use Rattle.promise_runs.specs.Run.{Call, lent, called, ran, fresh}
-use Rattle.promise_runs.proofs.Reached.{Whole}
+use Rattle.promise_runs.specs.Run.{Call, lent, called, ran, fresh, Whole}
 use Rattle.promise_ledger.specs.Held.{heldOf}
 use Rattle.promise_accounts.proofs.OnePlace.{everything-in-one-place}
 use Rattle.promise_contents.specs.Content.{contentOf, rowIn, nextIn, freeSlot, nextSlot, PassedOn, Leave}
@@ -26,7 +25,7 @@ use Rattle.promise_contents.proofs.Named.{number-names}
 
 module _ (m : Memory) (whole : Whole m) (one : length (m .areas .arrivals) ≡ 1) (text : List ℕ) where
   -- the next number isn't held yet
-  next-unheld : (earlier : List Call)
+  pub next-unheld : (earlier : List Call)
       → let before = ran (configured text .plan) earlier (fresh m) in
       heldOf (is (nextIn (contentOf before))) (before .areas .rows) (queuesIn (before .areas)) ≡ 0
   next-unheld earlier =

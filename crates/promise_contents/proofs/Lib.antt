@@ -4,6 +4,7 @@ pub mod KeptPassing
 pub mod KeptReceiving
 pub mod KeptCalls
 pub mod KeptRuns
+pub mod Fitting
 pub mod Free
 pub mod FreeMoving
 pub mod FreeEvents
@@ -19,3 +20,8 @@ pub mod Ready
 pub mod Unsent
 pub mod Named
 pub mod KeptWhole
+pub mod Given
+pub mod GivenCalls
+pub mod MadeLeaves
+pub mod EverySend
+pub mod InRange

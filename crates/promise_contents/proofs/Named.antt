@@ -19,7 +19,9 @@ use Rattle.promise_ledger.specs.Held.{arrivalOf, heldOf}
 use Rattle.promise_contents.specs.Content.{contentOf, rowIn, nextIn, Same, Newer, freeSlot, PassedOn}
 use Rattle.promise_contents.proofs.KeptRuns.{called-keeps}
 use Rattle.promise_contents.proofs.Free.{freeIn}
-use Rattle.promise_contents.proofs.FreeEvents.{queuesIn}
+use Rattle.promise_contents.specs.Made.{New, newOf, Written}
+use Rattle.promise_contents.proofs.Fitting.{written-number}
+use Rattle.promise_contents.proofs.FreeEvents.{queuesIn, StillAt}
 use Rattle.promise_contents.proofs.FreeCalls.{call-stays}
 use Rattle.promise_contents.proofs.OctetsKept.{call-stands}
 use Rattle.promise_contents.proofs.Ready.{Ready, call-ready}
@@ -27,7 +29,7 @@ use Rattle.promise_contents.proofs.Unsent.{number-held}
 
 module _ (plan : Plan) (sound : Plan.Sound plan) where
   -- from one memory to a later one a slot holds what it held and is free if it was, or it holds a newer message
-  abbrev Older : Memory → Memory → ℕ → Type 0
+  abbrev pub Older : Memory → Memory → ℕ → Type 0
   Older m m′ slot =
       (Same (contentOf m) (contentOf m′) slot × (freeIn (queuesIn (m .areas)) slot ≤ freeIn (queuesIn (m′ .areas)) slot))
       ⊎ Newer (contentOf m) (contentOf m′) slot
@@ -37,16 +39,18 @@ module _ (plan : Plan) (sound : Plan.Sound plan) where
   unfolding called
   called-older call m ready slot h =
       let next : Memory = called plan call m in
+      let new : New = newOf plan (call .event) (call .message) (lent call m .areas) in
       ⊎-elim
       (λ (same : Same (contentOf m) (contentOf next) slot).
-      ⊎-elim (λ (free : freeIn (queuesIn (m .areas)) slot ≤ freeIn (queuesIn (next .areas)) slot). inl (same, free))
-      (λ (newer : Newer (contentOf m) (contentOf next) slot). inr newer)
+      ⊎-elim (λ (still : StillAt (queuesIn (m .areas)) (queuesIn (next .areas)) (m .areas .rows) (next .areas .rows) slot). inl (same, still .1))
+      (λ (written : Written new (nextIn (contentOf m)) slot (rowIn (contentOf next) slot)).
+      inr (omega (arith, written-number new (nextIn (contentOf m)) slot (rowIn (contentOf next) slot) written)))
       (call-stays plan (call .message) (lent call m) (ready .regular) (ready .apart) (call .event) slot h))
       (λ (newer : Newer (contentOf m) (contentOf next) slot). inr newer)
       (called-keeps plan call m (ready .regular .store .rowsLong) .each slot h)
 
   -- and by a run
-  run-older : (calls : List Call) (m : Memory) → Ready m → (slot : ℕ) → slot < 256 → Older m (ran plan calls m) slot
+  pub run-older : (calls : List Call) (m : Memory) → Ready m → (slot : ℕ) → slot < 256 → Older m (ran plan calls m) slot
   unfolding ran
   run-older [] m ready slot h = inl ((refl, refl), omega arith)
   run-older (call ∷ later) m ready slot h =

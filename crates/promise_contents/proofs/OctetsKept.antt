@@ -21,9 +21,9 @@ use Rattle.promise_runs.specs.Run.{Call, lent, called, ran}
 use Rattle.promise_runs.proofs.KeepsCalls.{RegularAt}
 use Rattle.promise_contents.specs.Content.{Content, contentOf, rowIn, octetsIn, nextIn, Same, Holds, freeSlot, nextSlot, PassedOn, Leave}
 use Rattle.promise_contents.proofs.KeptRuns.{called-keeps, older-same}
-use Rattle.promise_contents.proofs.Queued.{Stands}
+use Rattle.promise_contents.proofs.Queued.{StandsQueued}
 use Rattle.promise_contents.proofs.QueuedCalls.{sent-stands, received-stands}
-use Rattle.promise_contents.proofs.Sent.{sent-octets}
+use Rattle.promise_contents.proofs.Sent.{written-leaves, user-writes}
 
 module _ (plan : Plan) (message : List ℕ) (m : Memory) (regular : RegularAt m)
     (kinds : Kinds (m .areas .spans) (m .areas .rings))
@@ -33,7 +33,7 @@ module _ (plan : Plan) (message : List ℕ) (m : Memory) (regular : RegularAt m)
   StandsBy view event =
       let r = callOf plan event message m in
       PassedOn plan message view → r .answer .reply ≡ 0
-      → Stands plan (m .areas) (m .octets) (regular .store) kinds one message (r .after .areas) (r .after .octets)
+      → StandsQueued plan (m .areas) (m .octets) (regular .store) kinds one message (r .after .areas) (r .after .octets)
 
   by-kind : EachKind StandsBy
   unfolding callOf receives takesOver PassedOn
@@ -94,7 +94,9 @@ held-leaves plan link given m number message holds none =
     let whole : octetsIn (contentOf m) slot (rowIn (contentOf m) slot .field) ≡ message =
     ap (octetsIn (contentOf m) slot) (holds .size) ∙ holds .octets
     in
-    subst (Leave (callOf plan (Send link) given m)) whole (sent-octets plan link given m none (holds .user) small .1)
+    subst (Leave (callOf plan (Send link) given m)) whole
+    (written-leaves (callOf plan (Send link) given m) (m .out) (octetsIn (contentOf m) slot (rowIn (contentOf m) slot .field))
+    (user-writes plan link given m none (holds .user) small))
 
 module _ (plan : Plan) (m : Memory) (regular : RegularAt m) (kinds : Kinds (m .areas .spans) (m .areas .rings))
     (one : length (m .areas .arrivals) ≡ 1)

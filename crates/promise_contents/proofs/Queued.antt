@@ -24,7 +24,7 @@ use Rattle.replies.specs.Reply.{done}
 use Rattle.replies.specs.Areas.{Areas, Outcome, judged, refused}
 use Rattle.replies.proofs.Rows.{none-applies}
 use Rattle.queue_heads.specs.Head.{Queues, both, headOf}
-use Rattle.queue_joining.specs.Queue.{nextOf, noUserPlace, userReply, userQueues, userRow, userOctets, userArrivals}
+use Rattle.queue_joining.specs.Queue.{nextOf, noUserPlace, userReply, userQueues, rowsWithUser, userOctets, userArrivals}
 use Rattle.passing_passage.specs.Passage.{unreachable, ringOf, placeReply, queued, octetsQueued}
 use Rattle.promise_runs.proofs.Outcomes.{by-test}
 use Rattle.promise_ledger.proofs.Balance.{head-found}
@@ -59,13 +59,13 @@ module _
   Alone rows queues slot = (slotAt rows slot ≡ slotAt (a .rows) slot) × (freeIn (queuesIn a) slot ≤ freeIn queues slot)
 
   -- all this of areas, with these octets
-  abbrev pub Stands : Areas → List ℕ → Type 0
-  Stands b written =
+  abbrev pub StandsQueued : Areas → List ℕ → Type 0
+  StandsQueued b written =
       Taken (contentIn b written) × ((slot : ℕ) → (slot ≡ free → ⊥) → Alone (b .rows) (queuesIn b) slot)
 
   -- it stands there where the reply is 0
   abbrev pub Does : Outcome → List ℕ → Type 0
-  Does o written = o .answer .reply ≡ 0 → Stands (o .after) written
+  Does o written = o .answer .reply ≡ 0 → StandsQueued (o .after) written
 
   -- where there is a place a slot is free
   free-found : userReply (a .spans) (a .arrivals) ≡ 0 → headOf (queuesIn a) 33 .found ≡ true
@@ -81,8 +81,8 @@ module _
 
   -- the other slots where a message is queued
   user-alone : userReply (a .spans) (a .arrivals) ≡ 0 → (ring : ℕ) → ring < 33 → (point sls slot : ℕ) → (slot ≡ free → ⊥)
-      → Alone (userRow (queuesIn a) (a .arrivals) (a .rows) point sls (length message)) (userQueues (queuesIn a) (a .arrivals) ring) slot
-  unfolding userRow userQueues
+      → Alone (rowsWithUser (queuesIn a) (a .arrivals) (a .rows) point sls (length message)) (userQueues (queuesIn a) (a .arrivals) ring) slot
+  unfolding rowsWithUser userQueues
   user-alone done ring h point sls slot other =
       simp (eq-eqb (userReply (a .spans) (a .arrivals)) 0 done) (
         row-kept (a .rows) (Write.user free (nextOf (a .arrivals)) point sls message) slot other,
@@ -93,10 +93,10 @@ module _
     -- queued
     user-stands : userReply (a .spans) (a .arrivals) ≡ 0 → (point sls : ℕ)
         → Taken
-        (content (userRow (both (a .spans) (a .rings)) (a .arrivals) (a .rows) point sls (length message))
+        (content (rowsWithUser (both (a .spans) (a .rings)) (a .arrivals) (a .rows) point sls (length message))
         (userOctets (both (a .spans) (a .rings)) (a .arrivals) octets message)
         (userArrivals (a .spans) (a .arrivals)))
-    unfolding userRow userOctets userArrivals
+    unfolding rowsWithUser userOctets userArrivals
     user-stands done point sls =
         let fit : fits free (length message) ≡ true = fits-there free (length message) (free-user done) small in
         let row = user-read (a .rows) free (nextOf (a .arrivals)) point sls (length message) (sound .rowsLong) fit in
@@ -113,7 +113,7 @@ module _
 
     -- with the areas and the octets that it leaves
     pub queued-stands : (label : Label) → unreachable plan a label ≡ false → userReply (a .spans) (a .arrivals) ≡ 0
-        → Stands (queued plan a label (length message)) (octetsQueued a octets message)
+        → StandsQueued (queued plan a label (length message)) (octetsQueued a octets message)
     unfolding queued octetsQueued
     queued-stands label reached done = (
       user-stands done (label .dpc) (label .sls),

@@ -86,7 +86,7 @@ module _
   host-stands Foreign small none = absurd (omega arith)
   host-stands Delivered small none = absurd (omega arith)
   host-stands (Managed order) small none = absurd (omega arith)
-  host-stands (Passed label) small none = offered-stands small label none
+  host-stands (Passed label) small none = offered-stands (small .1) label none
 
   -- with a node: without one the reply is 2
   pub sent-stands : StandsBy (sent plan message a) (octetsSent plan message a octets)
@@ -108,7 +108,7 @@ module _
       Small came (length message)
       → StandsBy (receivedBy plan arriving fsn (length message) came a) (Receive.octetsBy plan came a octets message))
       is
-      (λ small. passed-stands small arriving label)
+      (λ small. passed-stands (small .1) arriving label)
 
   -- taken, or not
   taken-stands : (arriving fsn : ℕ) (o : Outcome) (written : List ℕ) → StandsBy o written → StandsBy (takenBy arriving fsn o) written

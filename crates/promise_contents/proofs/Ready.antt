@@ -9,9 +9,9 @@ use Rattle.plan.specs.Sound as Plan
 use Rattle.queue_store.specs.Sound.{Kinds}
 use Rattle.queue_store.proofs.FreshStore.{fresh-kinds}
 use Rattle.node.specs.Memory.{Memory}
-use Rattle.promise_runs.specs.Run.{Call, lent, called, ran, fresh}
+use Rattle.promise_runs.specs.Run.{Call, lent, called, ran, fresh, Whole}
 use Rattle.promise_runs.proofs.KeepsCalls.{RegularAt, call-regular}
-use Rattle.promise_runs.proofs.Reached.{Whole, fresh-regular}
+use Rattle.promise_runs.proofs.Reached.{fresh-regular}
 use Rattle.promise_accounts.proofs.EvenCalls.{call-even}
 
 -- a regular state whose free slots are apart by kind, with one next number

@@ -52,7 +52,7 @@ sum-more f g less (suc n) = omega (arith, less n, sum-more f g less n)
 
 module _ (rows octets : List ℕ) (queues : Queues) (sound : SoundIn rows octets queues) (slot : ℕ) (h : slot < 256) where
   -- a slot stands in a queue, or is free
-  one-place : sum (standsIn queues slot) 33 + freeIn queues slot ≡ 1
+  pub one-place : sum (standsIn queues slot) 33 + freeIn queues slot ≡ 1
   unfolding held
   one-place = omega (arith, sum-two (standsIn queues slot) 33, sound .once slot h)
 

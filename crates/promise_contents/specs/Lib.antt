@@ -1,1 +1,3 @@
 pub mod Content
+pub mod Made
+pub mod Given

@@ -14,29 +14,32 @@ use Rattle.replies.specs.Areas.{Areas}
 use Rattle.plan_configuration.specs.Configure.{configured}
 use Rattle.plan_configuration.proofs.Made.{configured-sound}
 use Rattle.node.specs.Memory.{Memory}
-use Rattle.promise_runs.specs.Run.{Call, lent, called, ran, fresh}
-use Rattle.promise_runs.proofs.Reached.{Whole, fresh-record, fresh-regular}
+use Rattle.promise_runs.specs.Run.{Call, lent, called, ran, fresh, Whole}
+use Rattle.promise_runs.proofs.Reached.{fresh-record, fresh-regular}
 use Rattle.promise_runs.proofs.KeepsCalls.{RegularAt, call-regular}
-use Rattle.promise_farend.specs.Service.{Service, begun, served, servedIn}
+use Rattle.promise_farend.specs.History.{History, begun, historyBy, historyIn}
 use Rattle.promise_farend.specs.Card.{noted, notedIn, Agrees}
 use Rattle.promise_farend.proofs.ServedCalls.{InService, call-served, run-served}
 use Rattle.promise_farend.proofs.CardCalls.{Keeps, agrees, call-noted}
 
 -- over a run of calls
 module _ (plan : Plan) (sound : Plan.Sound plan) (link : ℕ) (h : link < 32) where
-  run-noted : (calls : List Call) (m : Memory) (s : Service) → RegularAt m → InService (m .areas) link s → (card : Record) → Keeps s card
-      → Keeps (servedIn plan calls m link s) (notedIn plan calls m link card)
-  unfolding servedIn notedIn called served noted
+  run-noted : (calls : List Call) (m : Memory) (s : History) → RegularAt m → InService (m .areas) link s → (card : Record) → Keeps s card
+      → Keeps (historyIn plan calls m link s) (notedIn plan calls m link card)
+  unfolding historyIn notedIn called historyBy noted
   run-noted [] m s regular before card keeps = keeps
   run-noted (call ∷ later) m s regular before card keeps =
       let within : InService (lent call m .areas) link s =
       λ up. let was = before up in record { sent-is = was .sent-is; acknowledged-is = was .acknowledged-is }
       in
-      run-noted later (called plan call m) (served plan call m link s)
+      let kept = call-noted plan (call .message) (lent call m) regular link h s within card keeps (call .event) in
+      run-noted later (called plan call m) (historyBy plan call m link s)
       (call-regular plan sound (call .message) (lent call m) regular (call .event))
-      (call-served plan (call .message) (lent call m) regular link h s within (call .event))
+      (λ up.
+      let now = call-served plan (call .message) (lent call m) regular link h s within (call .event) up in
+      record { sent-is = now .sent-is; acknowledged-is = now .acknowledged-is })
       (noted plan call m link card)
-      (call-noted plan (call .message) (lent call m) regular link h s within card keeps (call .event))
+      (record { sent-kept = kept .sent-kept; acknowledged-kept = kept .acknowledged-kept })
 
 -- from a fresh node
 module _ (m : Memory) (whole : Whole m) (text : List ℕ) (calls : List Call) (link : ℕ) (h : link < 32) where
@@ -54,7 +57,7 @@ module _ (m : Memory) (whole : Whole m) (text : List ℕ) (calls : List Call) (l
       λ in-service.
       absurd (in-service (ap (λ (k : LinkRecord). k .state) (fresh-record (m .areas .links) (whole .links-long) link h)))
       in
-      agrees after link (servedIn of-text calls (fresh m) link begun) (notedIn of-text calls (fresh m) link Card.begun)
+      agrees after link (historyIn of-text calls (fresh m) link begun) (notedIn of-text calls (fresh m) link Card.begun)
       (run-served of-text (configured-sound text) link h calls (fresh m) begun (fresh-regular m whole) out up)
       (run-noted of-text (configured-sound text) link h calls (fresh m) begun (fresh-regular m whole) out Card.begun
       (record { sent-kept = refl; acknowledged-kept = refl }))

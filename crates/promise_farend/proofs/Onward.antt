@@ -1,8 +1,7 @@
 -- Queues that go on: every link's but one has what it had and what is new behind it, and its numbers stay as they were.
 -- Assumes nothing.
 use mathlib.Core.Path.{_≡_, refl, sym, ap, _∙_}
-use mathlib.Core.Bool.{Bool, true, false}
-use mathlib.Core.List.{List, [], _∷_, _++_, append-nil, append-assoc}
+use mathlib.Core.List.{List, [], _++_, append-nil, append-assoc}
 use Prim.Native.Nat.{ℕ, _%_, _<_}
 use native.Mathlib.Nat.{mod-lt, mod-eq-of-lt}
 use native.Mathlib.Omega.{arith}
@@ -17,11 +16,12 @@ use Rattle.promise_runs.proofs.Keeping.{loaded-in-range}
 use Rattle.promise_runs.proofs.Records.{Rewritten, received-rewritten}
 use Rattle.promise_accounts.specs.Gone.{queueOf}
 
--- a record with the numbers of another, that isn't in service where the other isn't
+-- a record with the numbers of another, that is out exactly where the other is: states are stored modulo 4
 pub record Same (known new : LinkRecord) : Type 0 where
   pub acknowledged-same : new .acknowledged ≡ known .acknowledged
   pub sent-same : new .sent ≡ known .sent
   pub still-out : known .state ≡ 0 → new .state ≡ 0
+  pub still-in : new .state % 4 ≡ 0 → known .state % 4 ≡ 0
 
 -- as one that is the other
 pub same-if : (known new : LinkRecord) → new ≡ known → Same known new
@@ -29,6 +29,7 @@ same-if known new is = record {
   acknowledged-same = ap (λ (k : LinkRecord). k .acknowledged) is;
   sent-same = ap (λ (k : LinkRecord). k .sent) is;
   still-out = λ e. ap (λ (k : LinkRecord). k .state) is ∙ e;
+  still-in = λ e. sym (ap (λ (k : LinkRecord). k .state % 4) is) ∙ e;
 }
 
 pub same-self : (known : LinkRecord) → Same known known
@@ -40,6 +41,7 @@ same-on first next last one two =
       acknowledged-same = two .acknowledged-same ∙ one .acknowledged-same;
       sent-same = two .sent-same ∙ one .sent-same;
       still-out = λ e. two .still-out (one .still-out e);
+      still-in = λ e. one .still-in (two .still-in e);
     }
 
 -- from one to the next, for every link but one
@@ -87,6 +89,10 @@ stored links long link new after rewritten same other h =
           ap (λ (k : LinkRecord). k .acknowledged) there ∙ mod-eq-of-lt (omega (arith, same .acknowledged-same)) ∙ same .acknowledged-same;
       sent-same = ap (λ (k : LinkRecord). k .sent) there ∙ mod-eq-of-lt (omega (arith, same .sent-same)) ∙ same .sent-same;
       still-out = λ e. ap (λ (k : LinkRecord). k .state) there ∙ ap (λ (n : ℕ). n % 4) (same .still-out e);
+      still-in =
+          λ e.
+          let twice : new .state % 4 % 4 ≡ 0 = sym (ap (λ (k : LinkRecord). k .state % 4) there) ∙ e in
+          same .still-in (omega (arith, twice));
     }))
     (λ apart. same-if (recordAt links other) (recordAt after other) (rewritten .others other apart))
 
@@ -108,7 +114,7 @@ pub onward-taken : (but : ℕ) (a b : Areas) → length (b .links) ≡ 256 → O
 unfolding taken
 onward-taken but a b long onward arriving fsn =
     onward-stored but a b long onward (received-rewritten (b .links) arriving fsn)
-    (record { acknowledged-same = refl; sent-same = refl; still-out = λ e. e })
+    (record { acknowledged-same = refl; sent-same = refl; still-out = λ e. e; still-in = λ e. e })
 
 pub onward-marks : (but : ℕ) (a b : Areas) → Onward but a b → (marks : List ℕ) → Onward but a (withMarks b marks)
 onward-marks but a b onward marks = record { queues = onward .queues; records = onward .records }

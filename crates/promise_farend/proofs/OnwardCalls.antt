@@ -6,7 +6,7 @@ use mathlib.Core.Bool.{Bool, true, false, cond, not, _||_, or-false}
 use mathlib.Core.List.{List, [], append-nil}
 use Prim.Native.Nat.{ℕ, _<_}
 use native.Mathlib.Omega.{arith}
-use lib.Dec.{eqb, ltb, leb}
+use lib.Dec.{eqb, leb}
 use lib.ListN.{length}
 use borrow.Author.Tests.{ltb-true, ltb-false, eqb-true, not-false}
 use Rattle.plan.specs.declared.data.Plan.{Plan}
@@ -17,6 +17,8 @@ use Rattle.area_flags.specs.Flags.{withFlag}
 use Rattle.area_numbers.specs.LinkWords.{withAcknowledged, withSent}
 use Rattle.area_links.specs.LinkRecords.{recordAt, withRecord}
 use Rattle.reports.specs.Report.{short, room}
+use Rattle.wire_messages.specs.declared.management.Message.the-variants.{CBD}
+use Rattle.wire_messages.specs.Management.{headingOf}
 use Rattle.replies.specs.Reply.{first}
 use Rattle.replies.specs.Areas.{Areas, areas, Outcome, refused, withLinks}
 use Rattle.lookup.specs.Lookup.{isLink, slcOf, adjacentOf}
@@ -89,7 +91,7 @@ module _ (plan : Plan) (a : Areas) (octets : List ℕ) (regular : RegularIn a oc
         onward-stored 32 a (withMade plan (orderOf plan (a .links) link) a) (regular .links-long)
         (made-onward a octets regular plan (orderOf plan (a .links) link))
         (record-rewritten (a .links) link (changing known (timerOf plan a link)))
-        (record { acknowledged-same = refl; sent-same = refl; still-out = λ out. absurd (omega (arith, is)) })
+        (record { acknowledged-same = refl; sent-same = refl; still-out = λ out. absurd (omega (arith, is)); still-in = λ out. absurd (omega (arith, out)) })
 
     failure-onward : Onward (butOf (endingByFailure plan a link)) a (failed plan a link .after)
     unfolding endingByFailure failed Failure.replyOf
@@ -118,11 +120,11 @@ module _ (plan : Plan) (a : Areas) (octets : List ℕ) (regular : RegularIn a oc
         let from : Sources = sourcesIn plan (a .links) (a .marks) link in
         let there : Onward 32 a (withHeld a (declared plan link from (heldIn a))) =
         by-test (λ (now : Held). Onward 32 a (withHeld a now)) (declares from)
-        (joined a octets regular (from .own) 0x51 (adjacentOf plan link) (slcOf plan link) (from .own))
+        (joined a octets regular (from .own) (headingOf (CBD (from .own))) (adjacentOf plan link) (slcOf plan link) (from .own))
         (heldIn a)
         (λ e.
         let h = ltb-true (from .own) 32 e in
-        joined-onward a octets regular (from .own) (omega arith) 0x51 (adjacentOf plan link) (slcOf plan link) (from .own))
+        joined-onward a octets regular (from .own) (omega arith) (headingOf (CBD (from .own))) (adjacentOf plan link) (slcOf plan link) (from .own))
         (λ e. record { queues = onward-none 32 a .queues; records = onward-none 32 a .records })
         in
         if-done (λ (o : Outcome). Onward link a (o .after)) (Service.replyOf plan a link) _ _
@@ -164,7 +166,7 @@ module _ (plan : Plan) (a : Areas) (octets : List ℕ) (regular : RegularIn a oc
     unfolding Acknowledge.replyOf
     within b done =
         let passed =
-        rows-passed (Acknowledge.outOfRange link b) (not (isLink plan link)) (not (Acknowledge.isOpen (a .links) link)) _ done
+        rows-passed (Acknowledge.outOfRange link b) (not (isLink plan link)) (not (Acknowledge.linkOpen (a .links) link)) _ done
         in
         link-within link (leb 128 b) (passed .0)
 
@@ -190,8 +192,9 @@ module _ (plan : Plan) (a : Areas) (octets : List ℕ) (regular : RegularIn a oc
         record {
           queues =
               λ other h apart.
+              let here : link < 33 = omega (arith, within b done) in
               let same =
-              others-left (a .rows) octets link (omega (arith, within b done)) (upTo known b) (both (a .spans) (a .rings)) (regular .store) other (omega arith) apart
+              others-left (a .rows) octets link here (upTo known b) (both (a .spans) (a .rings)) (regular .store) other (omega arith) apart
               in
               ([], same ∙ sym (append-nil (queueOf a other)));
           records = λ other h apart. same-if _ _ (acknowledged-rewritten (a .links) link b (leftSent known b) .others other apart);

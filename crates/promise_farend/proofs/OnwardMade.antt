@@ -2,12 +2,11 @@
 -- apart that move stand behind too.
 -- Assumes nothing.
 use mathlib.Core.Path.{_≡_, refl, sym, ap, _∙_}
-use mathlib.Core.Bool.{Bool, true, false}
+use mathlib.Core.Bool.{true, false}
 use mathlib.Core.List.{List, [], _∷_, _++_, map, append-nil, append-assoc}
-use Prim.Native.Nat.{ℕ, suc, _+_, _≤_, _<_}
+use Prim.Native.Nat.{ℕ, _+_, _<_}
 use native.Mathlib.Omega.{arith}
 use lib.Dec.{eqb, ltb}
-use lib.ListN.{length}
 use borrow.Author.Tests.{ltb-true}
 use borrow.Table.Elements.{map-app}
 use borrow.Table.Steps.{cases}
@@ -18,8 +17,9 @@ use Rattle.queue_rings.specs.Ring.{countOf}
 use Rattle.reports.specs.Report.{short}
 use Rattle.replies.specs.Areas.{Areas}
 use Rattle.route_choice.specs.Which.{none}
-use Rattle.queue_heads.specs.Head.{Queues, both, headOf, moved, freed}
+use Rattle.queue_heads.specs.Head.{both, headOf, moved, freed}
 use Rattle.queue_retiring.specs.Leave.{State, droppedOne}
+use Rattle.wire_messages.specs.Management.{headingOf, fieldOf}
 use Rattle.management_making.specs.declared.Draft.{Draft}
 use Rattle.management_making.specs.Make.{Held, pathOf, hasPath, made, heldIn, withHeld, withMade}
 use Rattle.queue_moving.specs.Move.{apart, pointOf, goesTo, movedOne}
@@ -35,9 +35,8 @@ use Rattle.promise_ledger.proofs.Balance.{moved-none}
 use Rattle.promise_ledger.proofs.Behind.{management-joined}
 use Rattle.promise_ledger.proofs.Gone.{Ready}
 use Rattle.promise_ledger.proofs.Moving.{released-one-even}
-use Rattle.promise_leaving.specs.Going.{slotsOf, gained}
-use Rattle.promise_leaving.proofs.Queues.{head-found, head-is, head-none, moved-to, moved-other, freed-other}
-use Rattle.promise_accounts.specs.Gone.{queueOf}
+use Rattle.promise_leaving.specs.Going.{slotsOf}
+use Rattle.promise_leaving.proofs.Queues.{head-found, head-none, moved-to, moved-other, freed-other}
 use Rattle.promise_accounts.proofs.EvenMaking.{joined}
 use Rattle.promise_accounts.proofs.Endings.{out-exactly}
 use Rattle.promise_farend.proofs.Onward.{same-if, same-self, Onward, onward-none}
@@ -60,11 +59,11 @@ module _ (a : Areas) (octets : List ℕ) (regular : RegularIn a octets) where
   made-onward plan draft =
       let path = pathOf plan (a .links) (a .marks) draft in
       by-test (λ (now : Held). Onward 32 a (withHeld a now)) (hasPath plan (a .links) (a .marks) draft)
-      (joined a octets regular path (draft .heading) (draft .point) (draft .slc) (draft .field))
+      (joined a octets regular path (headingOf (draft .message)) (draft .point) (draft .slc) (fieldOf (draft .message)))
       (heldIn a)
       (λ e.
       let h = ltb-true path none e in
-      joined-onward path (omega arith) (draft .heading) (draft .point) (draft .slc) (draft .field))
+      joined-onward path (omega arith) (headingOf (draft .message)) (draft .point) (draft .slc) (fieldOf (draft .message)))
       (λ e. record { queues = onward-none 32 a .queues; records = onward-none 32 a .records })
 
   -- a link goes out
@@ -72,7 +71,7 @@ module _ (a : Areas) (octets : List ℕ) (regular : RegularIn a octets) where
       → Onward link a (outOfService plan a link parts .after)
   unfolding outOfService linksOut
   out-onward plan link h wide parts =
-      let exact = out-exactly plan a octets regular true link h wide parts in
+      let exact = out-exactly plan a octets regular true false 32 link h wide parts in
       record {
         queues = λ other l apart. (_, exact .ended .cleared .joined other l apart);
         records =

@@ -1,9 +1,9 @@
 -- A message received over a link: every link's queue but that of one that goes out goes on.
 -- Assumes nothing.
 use mathlib.Core.Path.{_≡_, refl, ap, _∙_}
-use mathlib.Core.Bool.{Bool, true, false, cond}
+use mathlib.Core.Bool.{Bool, true, false, cond, not, _&&_}
 use mathlib.Core.List.{List}
-use Prim.Native.Nat.{ℕ}
+use Prim.Native.Nat.{ℕ, _%_}
 use native.Mathlib.Omega.{arith}
 use lib.Dec.{eqb}
 use lib.ListN.{length}
@@ -16,7 +16,6 @@ use Rattle.wire_messages.specs.declared.management.Message.the-variants.{COO, C
 use Rattle.reports.specs.Report.{short}
 use Rattle.replies.specs.Reply.{done, ifDone}
 use Rattle.replies.specs.Areas.{Areas, Outcome, outcome, refused}
-use Rattle.route_choice.specs.Which.{none}
 use Rattle.lookup.specs.Lookup.{linkNamed}
 use Rattle.numbers.specs.Numbers.{isTaken}
 use Rattle.numbers.specs.Taken.{withTaken, takenBy}
@@ -58,13 +57,30 @@ onward-any a b onward but = record {
   records = λ link h other. onward .records link h (λ e. omega arith);
 }
 
+-- a link that opens, or stays as it was, isn't out by that
+opened-in : (state : ℕ) (opens : Bool) → cond opens 2 state % 4 ≡ 0 → state % 4 ≡ 0
+opened-in state true out = absurd (omega (arith, out))
+opened-in state false out = out
+
 -- a timer of a waiting link that stops leaves its numbers
 pub stopped-same : (known : LinkRecord) (timer : ℕ) → Same known (stopped known timer)
 unfolding stopped
 stopped-same known timer =
     by-test (Same known) (eqb timer 3) (waits known false (known .code)) (waits known (known .t3) 0)
-    (λ e. record { acknowledged-same = refl; sent-same = refl; still-out = λ out. simp out })
-    (λ e. record { acknowledged-same = refl; sent-same = refl; still-out = λ out. simp out })
+    (λ e.
+    record {
+      acknowledged-same = refl;
+      sent-same = refl;
+      still-out = λ out. simp out;
+      still-in = opened-in (known .state) (eqb (known .state) 1 && (not false && eqb (known .code) 0));
+    })
+    (λ e.
+    record {
+      acknowledged-same = refl;
+      sent-same = refl;
+      still-out = λ out. simp out;
+      still-in = opened-in (known .state) (eqb (known .state) 1 && (not (known .t3) && true));
+    })
 
 module _ (plan : Plan) (a : Areas) (octets : List ℕ) (regular : RegularIn a octets) (arriving fsn : ℕ) where
   -- a CBA
@@ -111,8 +127,9 @@ module _ (plan : Plan) (a : Areas) (octets : List ℕ) (regular : RegularIn a oc
         (refused (answerReply plan step a) a)
         (refused (step .reply) a)
         (λ ends.
+        let wide-then = ap short (answer-reports a octets regular plan step) ∙ wide in
         onward-on (step .link) a b (outOfService plan b (step .link) (step .parts) .after) (onward-any a b answered-first (step .link))
-        (out-onward b octets (answer-regular a octets regular plan step) plan (step .link) (bears ends .0) (ap short (answer-reports a octets regular plan step) ∙ wide) (step .parts)))
+        (out-onward b octets (answer-regular a octets regular plan step) plan (step .link) (bears ends .0) wide-then (step .parts)))
         answered-first
         (onward-none 32 a)
         (onward-none 32 a)

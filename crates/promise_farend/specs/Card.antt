@@ -16,7 +16,7 @@ use Rattle.acknowledging.specs.Acknowledge.{bInRange}
 use Rattle.node.specs.View.{View, Comes, Fails, Sends, Acknowledges, Arrives, HandedOver, Overdue, Expires, viewOf}
 use Rattle.node.specs.Memory.{Memory}
 use Rattle.promise_runs.specs.Run.{Call, called}
-use Rattle.promise_farend.specs.Service.{isDone}
+use Rattle.promise_farend.specs.History.{resultOf, isDone}
 
 -- with an event more, whose reply is 0 or not: begun anew where the link comes into service
 unfoldable pub notedBy : ℕ → Bool → Record → View → Record
@@ -31,7 +31,7 @@ notedBy link done card Expires = card
 
 -- with a call more
 unfoldable pub noted : Plan → Call → Memory → ℕ → Record → Record
-noted plan call m link card = notedBy link (isDone plan call m) card (viewOf (call .event))
+noted plan call m link card = notedBy link (isDone (resultOf plan call m)) card (viewOf (call .event))
 
 -- and over a run of calls
 unfoldable pub notedIn : Plan → List Call → Memory → ℕ → Record → Record

@@ -1,3 +1,3 @@
-pub mod Service
+pub mod History
 pub mod FarEnd
 pub mod Card

@@ -20,7 +20,7 @@ use Rattle.queue_slots.specs.Message.{fits, userRows, managementRows}
 use Rattle.queue_slots.specs.Message as Message
 use Rattle.queue_store.specs.Sound.{Sound}
 use Rattle.queue_heads.specs.Head.{Queues, both, headOf, moved}
-use Rattle.queue_joining.specs.Queue.{nextOf, userReply, userQueues, userRow, managementReply, managementQueues, managementRow}
+use Rattle.queue_joining.specs.Queue.{nextOf, userReply, userQueues, rowsWithUser, managementReply, managementQueues, rowsWithManagement}
 use Rattle.promise_ledger.specs.Held.{arrivalOf, numbers}
 use Rattle.promise_ledger.proofs.Balance.{moved-some, head-long, head-room}
 use Rattle.promise_ledger.proofs.Free.{slot-apart}
@@ -89,7 +89,7 @@ module _
     (h : ring < 33)
     (heading point slc field : ℕ) where
   abbrev after : List ℕ
-  after = managementRow queues arrivals rows heading point slc field
+  after = rowsWithManagement queues arrivals rows heading point slc field
 
   abbrev filled : Queues
   filled = managementQueues queues arrivals ring
@@ -107,7 +107,7 @@ module _
 
   -- a queue that it doesn't join is as it was
   pub management-other : (link : ℕ) → link < 33 → (link ≡ ring → ⊥) → numbers after filled link ≡ numbers rows queues link
-  unfolding managementQueues managementRow managementRows
+  unfolding managementQueues rowsWithManagement managementRows
   management-other link l apart =
       cases (eqb (managementReply (queues .spans) arrivals) 0)
       (λ e.
@@ -117,7 +117,7 @@ module _
 
   -- and each has what it had, with what is new behind it
   pub management-joined : (link : ℕ) → link < 33 → (new : List ℕ) × (numbers after filled link ≡ numbers rows queues link ++ new)
-  unfolding managementQueues managementRow managementRows
+  unfolding managementQueues rowsWithManagement managementRows
   management-joined link l =
       cases (eqb (managementReply (queues .spans) arrivals) 0)
       (λ e.
@@ -169,8 +169,8 @@ module _
 
   pub user-joined : (link : ℕ) → link < 33
       → (new : List ℕ)
-      × (numbers (userRow queues arrivals rows point sls size) (userQueues queues arrivals ring) link ≡ numbers rows queues link ++ new)
-  unfolding userQueues userRow
+      × (numbers (rowsWithUser queues arrivals rows point sls size) (userQueues queues arrivals ring) link ≡ numbers rows queues link ++ new)
+  unfolding userQueues rowsWithUser
   user-joined link l =
       cases (eqb (userReply (queues .spans) arrivals) 0)
       (λ e.

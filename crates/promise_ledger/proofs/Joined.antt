@@ -21,7 +21,7 @@ use Rattle.queue_store.specs.Sound.{Sound, Kinds}
 use Rattle.queue_store.proofs.KindsApart.{taken-user}
 use Rattle.replies.proofs.Rows.{none-applies}
 use Rattle.queue_heads.specs.Head.{Queues, headOf, moved}
-use Rattle.queue_joining.specs.Queue.{nextOf, counted, noUserPlace, noManagementPlace, userReply, userQueues, userRow, userArrivals, managementReply, managementQueues, managementRow, managementArrivals}
+use Rattle.queue_joining.specs.Queue.{nextOf, counted, noUserPlace, noManagementPlace, userReply, userQueues, rowsWithUser, userArrivals, managementReply, managementQueues, rowsWithManagement, managementArrivals}
 use Rattle.promise_ledger.specs.Held.{arrivalOf, heldOf, givenOf}
 use Rattle.promise_ledger.proofs.Balance.{head-found}
 use Rattle.promise_ledger.proofs.Free.{slot-below, joined-next}
@@ -99,9 +99,9 @@ module _
 
     -- a user message: of at most 273 octets, so that it fits the slot that is free for user messages
     pub user-even : Kinds (queues .spans) (queues .rings) → (point sls size : ℕ) → size ≤ 273
-        → heldOf test (userRow queues arrivals rows point sls size) (userQueues queues arrivals ring) + givenOf test (nextOf arrivals)
+        → heldOf test (rowsWithUser queues arrivals rows point sls size) (userQueues queues arrivals ring) + givenOf test (nextOf arrivals)
         ≡ heldOf test rows queues + givenOf test (nextOf (userArrivals (queues .spans) arrivals))
-    unfolding userQueues userRow userArrivals
+    unfolding userQueues rowsWithUser userArrivals
     user-even kinds point sls size small =
         cases (eqb (userReply spans arrivals) 0)
         (λ e.
@@ -111,10 +111,10 @@ module _
 
     -- a management message
     pub management-even : (heading point slc field : ℕ)
-        → heldOf test (managementRow queues arrivals rows heading point slc field) (managementQueues queues arrivals ring)
+        → heldOf test (rowsWithManagement queues arrivals rows heading point slc field) (managementQueues queues arrivals ring)
         + givenOf test (nextOf arrivals)
         ≡ heldOf test rows queues + givenOf test (nextOf (managementArrivals (queues .spans) arrivals))
-    unfolding managementQueues managementRow managementArrivals managementRows
+    unfolding managementQueues rowsWithManagement managementArrivals managementRows
     management-even heading point slc field =
         let free : ℕ = headOf queues 34 .slot in
         let row : Slot = Message.managementRow (nextOf arrivals) heading point slc field in

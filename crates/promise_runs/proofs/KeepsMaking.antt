@@ -9,7 +9,8 @@ use Rattle.replies.specs.Areas.{Areas}
 use Rattle.route_choice.specs.Which.{none}
 use Rattle.route_ways.specs.Way.{forManagement}
 use Rattle.queue_heads.specs.Head.{both}
-use Rattle.queue_joining.specs.Queue.{managementQueues, managementRow, managementArrivals}
+use Rattle.queue_joining.specs.Queue.{managementQueues, rowsWithManagement, managementArrivals}
+use Rattle.wire_messages.specs.Management.{headingOf, fieldOf}
 use Rattle.management_making.specs.declared.Draft.{Draft}
 use Rattle.management_making.specs.Make.{Held, pathOf, hasPath, made, heldIn, withMade}
 use Rattle.promise_runs.specs.Regular.{Regular}
@@ -24,11 +25,11 @@ module _ (a : Areas) (octets : List ℕ) (regular : RegularIn a octets) where
   pub management-regular : (ring : ℕ) → Goes (a .links) ring → (heading point slc field : ℕ)
       → let after = managementQueues (both (a .spans) (a .rings)) (a .arrivals) ring in
       Regular (a .links) (after .spans) (after .rings)
-      (managementRow (both (a .spans) (a .rings)) (a .arrivals) (a .rows) heading point slc field)
+      (rowsWithManagement (both (a .spans) (a .rings)) (a .arrivals) (a .rows) heading point slc field)
       octets
   management-regular ring goes heading point slc field =
       grew (a .links) (a .spans) (a .rings) (a .rows) octets regular 34 (omega arith)
-      (managementRow (both (a .spans) (a .rings)) (a .arrivals) (a .rows) heading point slc field)
+      (rowsWithManagement (both (a .spans) (a .rings)) (a .arrivals) (a .rows) heading point slc field)
       octets
       (managementQueues (both (a .spans) (a .rings)) (a .arrivals) ring)
       (management-kept (a .links) (both (a .spans) (a .rings)) (a .rows) octets (regular .store) (a .arrivals) ring goes heading point slc field)
@@ -50,15 +51,17 @@ module _ (a : Areas) (octets : List ℕ) (regular : RegularIn a octets) where
         (hasPath plan (a .links) (a .marks) draft)
         (record {
           queues = managementQueues (both (a .spans) (a .rings)) (a .arrivals) (pathOf plan (a .links) (a .marks) draft);
-          rows = managementRow (both (a .spans) (a .rings)) (a .arrivals) (a .rows) (draft .heading) (draft .point) (draft .slc) (draft .field);
+          rows =
+              rowsWithManagement (both (a .spans) (a .rings)) (a .arrivals) (a .rows) (headingOf (draft .message)) (draft .point) (draft .slc)
+              (fieldOf (draft .message));
           arrivals = managementArrivals (a .spans) (a .arrivals);
         })
         (heldIn a)
         (λ e.
         management-regular (pathOf plan (a .links) (a .marks) draft)
         (path-goes (ltb-true (pathOf plan (a .links) (a .marks) draft) none e))
-        (draft .heading)
+        (headingOf (draft .message))
         (draft .point)
         (draft .slc)
-        (draft .field))
+        (fieldOf (draft .message)))
         (λ e. regular)

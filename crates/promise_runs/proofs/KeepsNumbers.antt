@@ -19,7 +19,7 @@ use Rattle.queue_heads.specs.Head.{Queues, both}
 use Rattle.queue_retiring.specs.Leave.{retired}
 use Rattle.numbers.specs.Numbers.{oneMore, upTo, leftSent, taken}
 use Rattle.sending.specs.Send as Send
-use Rattle.acknowledging.specs.Acknowledge.{outOfRange, isOpen}
+use Rattle.acknowledging.specs.Acknowledge.{outOfRange, linkOpen}
 use Rattle.acknowledging.specs.Acknowledge as Acknowledge
 use Rattle.sending.proofs.Window.{one-more-sent}
 use Rattle.acknowledging.proofs.Window.{retired-and-left}
@@ -98,8 +98,8 @@ module _ (links spans rings rows octets : List ℕ) (regular : Regular links spa
       fits-open : Acknowledge.replyOf plan links link b ≡ 0 → (link < 32) × (known .state ≡ 2)
       unfolding Acknowledge.replyOf
       fits-open done =
-          let passed = rows-passed (outOfRange link b) (not (isLink plan link)) (not (isOpen links link)) _ done in
-          (link-within link (leb 128 b) (passed .0), eqb-true (known .state) 2 (not-false (isOpen links link) (passed .2)))
+          let passed = rows-passed (outOfRange link b) (not (isLink plan link)) (not (linkOpen links link)) _ done in
+          (link-within link (leb 128 b) (passed .0), eqb-true (known .state) 2 (not-false (linkOpen links link) (passed .2)))
 
       acknowledged-done : Acknowledge.replyOf plan links link b ≡ 0
           → let after = retired link (upTo known b) (both spans rings) in

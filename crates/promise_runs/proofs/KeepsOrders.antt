@@ -9,6 +9,7 @@ use borrow.Author.Tests.{ltb-true}
 use Rattle.plan.specs.declared.data.Plan.{Plan}
 use Rattle.area_links.specs.declared.LinkRecord.{LinkRecord}
 use Rattle.area_links.specs.LinkRecords.{recordAt}
+use Rattle.wire_messages.specs.declared.management.Message.the-variants.{COA, CBA, TFA}
 use Rattle.replies.specs.Reply.{done}
 use Rattle.replies.specs.Areas.{Areas, Outcome, outcome}
 use Rattle.lookup.specs.Lookup.{linkNamed}
@@ -82,7 +83,7 @@ module _ (plan : Plan) (links marks : List ℕ) (arriving fsn point slc : ℕ) w
   unfolding askCOO
   coo-of-link f =
       by-test OfLink (ltb link 32)
-      (orderStep (recordAt links link) link (draft 0x21 point slc (lastReceived links arriving fsn link) link) (emergencyOf point slc link)
+      (orderStep (recordAt links link) link (draft (COA (lastReceived links arriving fsn link)) point slc link) (emergencyOf point slc link)
       (cutAt (recordAt links link) f))
       nothing
       (λ e. order-of-link (recordAt links link) link (ltb-true link 32 e) _ _ _)
@@ -108,9 +109,9 @@ module _ (plan : Plan) (links marks : List ℕ) (arriving fsn point slc : ℕ) w
   pub cbd-of-link : (code : ℕ) → OfLink (askCBD plan point slc code)
   unfolding askCBD
   cbd-of-link code =
-      by-test OfLink (ltb link 32) (answer (draft 0x61 point slc code 32)) nothing (λ e. unmet) (λ e. unmet)
+      by-test OfLink (ltb link 32) (answer (draft (CBA code) point slc 32)) nothing (λ e. unmet) (λ e. unmet)
 
   pub rst-of-link : (x : ℕ) → OfLink (askRST plan links marks point x)
   unfolding askRST
   rst-of-link x =
-      by-test OfLink (allows plan links marks point x) (answer (draft 0x54 point 0 x 32)) nothing (λ e. unmet) (λ e. unmet)
+      by-test OfLink (allows plan links marks point x) (answer (draft (TFA x) point 0 32)) nothing (λ e. unmet) (λ e. unmet)

@@ -18,7 +18,7 @@ use Rattle.replies.specs.Areas.{Areas, Outcome, outcome, judged, refused}
 use Rattle.route_choice.specs.Which.{none}
 use Rattle.route_ways.specs.Way.{forUsers}
 use Rattle.queue_heads.specs.Head.{both}
-use Rattle.queue_joining.specs.Queue.{userQueues, userRow}
+use Rattle.queue_joining.specs.Queue.{userQueues, rowsWithUser}
 use Rattle.management_making.specs.Make.{makesReply}
 use Rattle.queue_moving.specs.Move.{apart}
 use Rattle.constants.specs.Constants.{t6}
@@ -52,7 +52,7 @@ module _ (a : Areas) (octets : List ℕ) (regular : RegularIn a octets) (plan : 
         (λ e. goes-free (a .links) apart (omega arith) (omega arith))
         (λ e. link-goes)
 
-    user-there : Kept (a .links) 33 (userRow (both (a .spans) (a .rings)) (a .arrivals) (a .rows) (label .dpc) (label .sls) (length message))
+    user-there : Kept (a .links) 33 (rowsWithUser (both (a .spans) (a .rings)) (a .arrivals) (a .rows) (label .dpc) (label .sls) (length message))
         (octetsQueued a octets message)
         (both (a .spans) (a .rings))
         (userQueues (both (a .spans) (a .rings)) (a .arrivals) (ringOf plan a label))
@@ -68,7 +68,7 @@ module _ (a : Areas) (octets : List ℕ) (regular : RegularIn a octets) (plan : 
     unfolding queued
     queued-regular =
         grew (a .links) (a .spans) (a .rings) (a .rows) octets regular 33 (omega arith)
-        (userRow (both (a .spans) (a .rings)) (a .arrivals) (a .rows) (label .dpc) (label .sls) (length message))
+        (rowsWithUser (both (a .spans) (a .rings)) (a .arrivals) (a .rows) (label .dpc) (label .sls) (length message))
         (octetsQueued a octets message)
         (userQueues (both (a .spans) (a .rings)) (a .arrivals) (ringOf plan a label))
         user-there

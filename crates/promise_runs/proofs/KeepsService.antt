@@ -14,13 +14,15 @@ use Rattle.plan.specs.Find.{given}
 use Rattle.plan.specs.Sound as Plan
 use Rattle.area_links.specs.LinkRecords.{recordAt, withRecord}
 use Rattle.queue_rings.specs.Ring.{countOf}
+use Rattle.wire_messages.specs.declared.management.Message.the-variants.{CBD}
+use Rattle.wire_messages.specs.Management.{headingOf}
 use Rattle.replies.specs.Areas.{Areas}
 use Rattle.reports.specs.Report.{short}
 use Rattle.route_choice.specs.Which.{none}
 use Rattle.route_ways.specs.Way.{forUsers, currentLink}
 use Rattle.lookup.specs.Lookup.{isLink, setOf, slcOf, adjacentOf}
 use Rattle.queue_heads.specs.Head.{both}
-use Rattle.queue_joining.specs.Queue.{managementQueues, managementRow, managementArrivals}
+use Rattle.queue_joining.specs.Queue.{managementQueues, rowsWithManagement, managementArrivals}
 use Rattle.management_making.specs.Make.{Held, heldIn}
 use Rattle.changeback_pairs.specs.declared.Sources.{Sources}
 use Rattle.changeback_pairs.specs.Pairs.{sources, cameFrom, withSource, sourcesFrom, sourcesOf}
@@ -105,7 +107,7 @@ module _ (plan : Plan) (sound : Plan.Sound plan) (a : Areas) (octets : List ℕ)
   abbrev from : Sources
   from = sourcesIn plan (a .links) (a .marks) link
 
-  own-goes : declares from ≡ true → Goes (a .links) (from .own)
+  pub own-goes : declares from ≡ true → Goes (a .links) (from .own)
   unfolding sourcesIn
   own-goes e =
       let h = ltb-true (from .own) none e in
@@ -124,22 +126,25 @@ module _ (plan : Plan) (sound : Plan.Sound plan) (a : Areas) (octets : List ℕ)
       by-test (λ (held : Held). Regular (a .links) (held .queues .spans) (held .queues .rings) (held .rows) octets) (declares from)
       (record {
         queues = managementQueues (both (a .spans) (a .rings)) (a .arrivals) (from .own);
-        rows = managementRow (both (a .spans) (a .rings)) (a .arrivals) (a .rows) 0x51 (adjacentOf plan link) (slcOf plan link) (from .own);
+        rows =
+            rowsWithManagement (both (a .spans) (a .rings)) (a .arrivals) (a .rows) (headingOf (CBD (from .own))) (adjacentOf plan link)
+            (slcOf plan link)
+            (from .own);
         arrivals = managementArrivals (a .spans) (a .arrivals);
       })
       (heldIn a)
-      (λ e. management-regular a octets regular (from .own) (own-goes e) 0x51 (adjacentOf plan link) (slcOf plan link) (from .own))
+      (λ e. management-regular a octets regular (from .own) (own-goes e) (headingOf (CBD (from .own))) (adjacentOf plan link) (slcOf plan link) (from .own))
       (λ e. regular)
 
   -- where the reply is 0 the link was out
-  was-out : replyFirst plan (a .links) link (a .reports) ≡ 0 → (link < 32) × (recordAt (a .links) link .state ≡ 0)
+  pub was-out : replyFirst plan (a .links) link (a .reports) ≡ 0 → (link < 32) × (recordAt (a .links) link .state ≡ 0)
   unfolding replyFirst
   was-out done =
       let out = eqb (recordAt (a .links) link .state) 0 in
       let passed = rows-passed (leb 32 link || short (a .reports)) (not (isLink plan link)) (not out) [] done in
       (link-within link (short (a .reports)) (passed .0), eqb-true (recordAt (a .links) link .state) 0 (not-false out (passed .2)))
 
-  first-done : replyOf plan a link ≡ 0 → replyFirst plan (a .links) link (a .reports) ≡ 0
+  pub first-done : replyOf plan a link ≡ 0 → replyFirst plan (a .links) link (a .reports) ≡ 0
   unfolding replyOf
   first-done =
       let first = replyFirst plan (a .links) link (a .reports) in

@@ -17,7 +17,7 @@ use Rattle.queue_rings.proofs.Queues.{found-count}
 use Rattle.queue_store.proofs.Written.{sound-written}
 use Rattle.replies.proofs.Rows.{none-applies}
 use Rattle.queue_heads.specs.Head.{Queues, headOf, moved}
-use Rattle.queue_joining.specs.Queue.{nextOf, noUserPlace, noManagementPlace, userReply, userQueues, userRow, userOctets, managementReply, managementQueues, managementRow}
+use Rattle.queue_joining.specs.Queue.{nextOf, noUserPlace, noManagementPlace, userReply, userQueues, rowsWithUser, userOctets, managementReply, managementQueues, rowsWithManagement}
 use Rattle.promise_runs.proofs.Counts.{move-to}
 use Rattle.promise_runs.proofs.Growing.{Goes, Kept, kept-none, kept-move}
 
@@ -37,9 +37,9 @@ module _
     (goes : Goes links ring) where
   -- a user message
   pub user-kept : (point sls : ℕ) (message : List ℕ)
-      → Kept links 33 (userRow queues arrivals rows point sls (length message)) (userOctets queues arrivals octets message) queues
+      → Kept links 33 (rowsWithUser queues arrivals rows point sls (length message)) (userOctets queues arrivals octets message) queues
       (userQueues queues arrivals ring)
-  unfolding userQueues userRow userOctets
+  unfolding userQueues rowsWithUser userOctets
   user-kept point sls message =
       cases (eqb (userReply (queues .spans) arrivals) 0)
       (λ e.
@@ -51,9 +51,9 @@ module _
 
   -- a management message
   pub management-kept : (heading point slc field : ℕ)
-      → Kept links 34 (managementRow queues arrivals rows heading point slc field) octets queues
+      → Kept links 34 (rowsWithManagement queues arrivals rows heading point slc field) octets queues
       (managementQueues queues arrivals ring)
-  unfolding managementQueues managementRow
+  unfolding managementQueues rowsWithManagement
   management-kept heading point slc field =
       cases (eqb (managementReply (queues .spans) arrivals) 0)
       (λ e.

@@ -25,16 +25,8 @@ use Rattle.plan_configuration.proofs.Made.{configured-sound}
 use Rattle.start.specs.Start.{freshLinks, freshSpans, freshRings}
 use Rattle.node.specs.Memory.{Memory}
 use Rattle.promise_runs.specs.Regular.{regularLink}
-use Rattle.promise_runs.specs.Run.{Call, lent, called, ran, fresh}
+use Rattle.promise_runs.specs.Run.{Call, lent, called, ran, Whole, fresh}
 use Rattle.promise_runs.proofs.KeepsCalls.{RegularAt, call-regular}
-
--- the areas have their lengths
-pub record Whole (m : Memory) : Type 0 where
-  pub links-long : length (m .areas .links) ≡ 256
-  pub spans-long : length (m .areas .spans) ≡ 70
-  pub rings-long : length (m .areas .rings) ≡ 8960
-  pub rows-long : length (m .areas .rows) ≡ 2048
-  pub octets-long : length (m .octets) ≡ 52416
 
 -- the record of a link that never was in service
 abbrev pub unused : LinkRecord

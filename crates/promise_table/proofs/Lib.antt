@@ -6,6 +6,8 @@ pub mod LinkReplies
 pub mod RouteReplies
 pub mod HostReply
 pub mod PassedReply
+pub mod NamesNothing
+pub mod NoneSuch
 pub mod ManagedReply
 pub mod ReceivedReply
 pub mod FirstRow

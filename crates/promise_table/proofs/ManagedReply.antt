@@ -29,6 +29,7 @@ use Rattle.promise_table.proofs.Either.{either, of-either}
 use Rattle.promise_table.proofs.Judged.{judged-done}
 use Rattle.promise_table.proofs.GoesOut.{ended-done}
 use Rattle.promise_table.proofs.RouteReplies.{making}
+use Rattle.promise_table.proofs.NamesNothing.{coo-eleven, coa-eleven, cbd-eleven, cba-eleven, eco-eleven, eca-eleven, tfp-eleven, tfa-eleven, rst-eleven}
 
 -- a step replies 11, or 0 and nothing else
 abbrev pub Plain : Step → Type 0
@@ -106,7 +107,7 @@ module _ (plan : Plan) (link fsn : ℕ) (a : Areas) where
     step message = stepAsked plan (a .links) (a .marks) link fsn point slc message
 
     abbrev pub managedRows : Message → List Row
-    managedRows message = rows (namesNothing plan a link fsn point slc message) (answerNeeds plan a (step message)) a
+    managedRows message = rows (namesNothing plan a point slc message) (answerNeeds plan a (step message)) a
 
     by-step : (message : Message)
         → reply (carried plan (stepAsked plan (a .links) (a .marks) link fsn point slc message) a)
@@ -125,14 +126,21 @@ module _ (plan : Plan) (link fsn : ℕ) (a : Areas) where
     answer-reply code =
         of-either reply (answers plan (a .links) point slc code) _ _ refl refl ∙ unless (answers plan (a .links) point slc code)
 
+    -- row 11 said in other words
+    said : {now other : Bool} → now ≡ other → (needs : Bool) → first (rows now needs a) ≡ first (rows other needs a)
+    said same needs = ap (λ (t : Bool). first (rows t needs a)) same
+
+    abbrev needed : Message → Bool
+    needed message = answerNeeds plan a (step message)
+
     pub managed-reply : (message : Message) → reply (managed plan link fsn point slc message a) ≡ first (managedRows message)
     unfolding managed namesNothing asked
-    managed-reply (COO f) = by-step (COO f)
-    managed-reply (COA f) = by-step (COA f)
-    managed-reply (CBD code) = by-step (CBD code)
-    managed-reply (CBA code) = answer-reply code
-    managed-reply ECO = by-step ECO
-    managed-reply ECA = by-step ECA
-    managed-reply (TFP x) = transfer-reply x true
-    managed-reply (TFA x) = transfer-reply x false
-    managed-reply (RST x) = by-step (RST x)
+    managed-reply (COO f) = by-step (COO f) ∙ said (coo-eleven plan (a .links) point slc link fsn f) (needed (COO f))
+    managed-reply (COA f) = by-step (COA f) ∙ said (coa-eleven plan (a .links) point slc f) (needed (COA f))
+    managed-reply (CBD code) = by-step (CBD code) ∙ said (cbd-eleven plan point slc code) (needed (CBD code))
+    managed-reply (CBA code) = answer-reply code ∙ said (cba-eleven plan (a .links) point slc code) false
+    managed-reply ECO = by-step ECO ∙ said (eco-eleven plan (a .links) point slc) (needed ECO)
+    managed-reply ECA = by-step ECA ∙ said (eca-eleven plan (a .links) point slc) (needed ECA)
+    managed-reply (TFP x) = transfer-reply x true ∙ said (tfp-eleven plan (a .marks) point x) false
+    managed-reply (TFA x) = transfer-reply x false ∙ said (tfa-eleven plan (a .marks) point x) false
+    managed-reply (RST x) = by-step (RST x) ∙ said (rst-eleven plan (a .links) (a .marks) point x) (needed (RST x))

@@ -1,3 +1,4 @@
+pub mod NamesNothing
 pub mod Received
 pub mod Table
 pub mod Asked

@@ -1,7 +1,6 @@
 -- When each row of the table applies to a message from a link, by what the message is.
 use Prim.Native.Nat.{ℕ}
 use mathlib.Core.Bool.{Bool, true, false, not, _&&_, _||_}
-use lib.Dec.{eqb}
 use Rattle.plan.specs.declared.data.Plan.{Plan}
 use Rattle.wire.specs.declared.header.Label.{Label}
 use Rattle.wire_messages.specs.declared.management.Message.{Message}
@@ -15,10 +14,9 @@ use Rattle.management_making.specs.declared.Draft.{Draft}
 use Rattle.management_making.specs.Make.{hasPath}
 use Rattle.queue_joining.specs.Queue.{noManagementPlace, noNumber}
 use Rattle.management_steps.specs.declared.Step.{Step}
-use Rattle.changeback_waiting.specs.Wait.{answers}
-use Rattle.rerouting_marking.specs.Mark.{counts}
 use Rattle.passing_passage.specs.Passage.{unreachable, tells, prohibitedTo}
 use Rattle.managing.specs.Managed.{stepAsked}
+use Rattle.promise_table.specs.NamesNothing.{orderNamesNothing, acknowledgementNamesNothing, declarationNamesNothing, answerNamesNothing, prohibitionNamesNothing, allowanceNamesNothing, testNamesNothing}
 
 -- row 3: "message malformed" (R49, R209)
 abbrev pub isMalformed : Came → Bool
@@ -54,20 +52,20 @@ isUnreachable plan a link came =
     ofPassed false (λ (label : Label). unreachable plan a label && not (makesTFP plan a link (label .dpc) && lacking a)) came
 
 -- row 11: "management message that names nothing, or fits no state" (R56)
-unfoldable pub namesNothing : Plan → Areas → ℕ → ℕ → ℕ → ℕ → Message → Bool
-namesNothing plan a link fsn point slc (COO f) = eqb (stepAsked plan (a .links) (a .marks) link fsn point slc (COO f) .reply) 11
-namesNothing plan a link fsn point slc (COA f) = eqb (stepAsked plan (a .links) (a .marks) link fsn point slc (COA f) .reply) 11
-namesNothing plan a link fsn point slc (CBD code) = eqb (stepAsked plan (a .links) (a .marks) link fsn point slc (CBD code) .reply) 11
-namesNothing plan a link fsn point slc (CBA code) = not (answers plan (a .links) point slc code)
-namesNothing plan a link fsn point slc ECO = eqb (stepAsked plan (a .links) (a .marks) link fsn point slc ECO .reply) 11
-namesNothing plan a link fsn point slc ECA = eqb (stepAsked plan (a .links) (a .marks) link fsn point slc ECA .reply) 11
-namesNothing plan a link fsn point slc (TFP x) = not (counts plan (a .marks) point x true)
-namesNothing plan a link fsn point slc (TFA x) = not (counts plan (a .marks) point x false)
-namesNothing plan a link fsn point slc (RST x) = eqb (stepAsked plan (a .links) (a .marks) link fsn point slc (RST x) .reply) 11
+unfoldable pub namesNothing : Plan → Areas → ℕ → ℕ → Message → Bool
+namesNothing plan a point slc (COO f) = orderNamesNothing plan point slc
+namesNothing plan a point slc (COA f) = acknowledgementNamesNothing plan (a .links) point slc
+namesNothing plan a point slc (CBD code) = declarationNamesNothing plan point slc
+namesNothing plan a point slc (CBA code) = answerNamesNothing plan (a .links) point slc code
+namesNothing plan a point slc ECO = orderNamesNothing plan point slc
+namesNothing plan a point slc ECA = acknowledgementNamesNothing plan (a .links) point slc
+namesNothing plan a point slc (TFP x) = prohibitionNamesNothing plan (a .marks) point x
+namesNothing plan a point slc (TFA x) = allowanceNamesNothing plan (a .marks) point x
+namesNothing plan a point slc (RST x) = testNamesNothing plan (a .links) (a .marks) point x
 
-unfoldable pub isPointless : Plan → Areas → ℕ → ℕ → Came → Bool
-isPointless plan a link fsn came =
-    ofManaged false (λ (order : Order). namesNothing plan a link fsn (order .point) (order .slc) (order .message)) came
+unfoldable pub isPointless : Plan → Areas → Came → Bool
+isPointless plan a came =
+    ofManaged false (λ (order : Order). namesNothing plan a (order .point) (order .slc) (order .message)) came
 
 -- row 7: a message for another point needs a place (R57)
 unfoldable pub needsUser : Plan → Areas → Came → Bool

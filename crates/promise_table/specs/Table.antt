@@ -41,7 +41,7 @@ receivedRows plan link fsn came a =
     ++ (row 3 (isMalformed came)
     ∷ row 4 (isForeign came)
     ∷ row 9 (isUnreachable plan a link came)
-    ∷ row 11 (isPointless plan a link fsn came)
+    ∷ row 11 (isPointless plan a came)
     ∷ row 7 (needsUser plan a came && noUserPlace (a .spans))
     ∷ row 8 (needsManagement plan a link fsn came && noManagementPlace (a .spans))
     ∷ row 10 ((needsUser plan a came || needsManagement plan a link fsn came) && noNumber (a .arrivals))

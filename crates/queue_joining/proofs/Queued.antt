@@ -9,10 +9,12 @@ use lib.ListN.{length}
 use borrow.Author.Tests.{eq-eqb, ne-eqb, le-leb, lt-leb}
 use Rattle.queue_rings.specs.declared.ring.Taken.{Taken}
 use Rattle.queue_rings.specs.Ring.{countOf}
-use Rattle.queue_slots.specs.Message as Message
+use Rattle.queue_slots.specs.Message as Written
+use Rattle.wire_messages.specs.declared.management.Message.{Message}
+use Rattle.wire_messages.specs.Management.{headingOf, fieldOf}
 use Rattle.replies.specs.Reply.{row, first}
 use Rattle.queue_heads.specs.Head.{Queues, both, headOf, moved}
-use Rattle.queue_joining.specs.Queue.{Held, held, withUser, withManagement, nextOf, noNumber, counted, userReply, userQueues, userRow, userOctets, userArrivals, managementReply, managementQueues, managementRow, managementArrivals}
+use Rattle.queue_joining.specs.Queue.{Held, held, withUser, withManagement, nextOf, noNumber, counted, userReply, userQueues, rowsWithUser, userOctets, userArrivals, managementReply, managementQueues, rowsWithManagement, managementArrivals}
 
 -- the reply where a slot of a ring of free ones is asked for, with the table's row for it
 abbrev pub replyFor : ℕ → ℕ → List ℕ → List ℕ → ℕ
@@ -56,52 +58,57 @@ module _ (spans rings arrivals rows octets message : List ℕ) (ring point sls :
   -- one that is refused leaves all as it was
   pub user-refused : (reply : ℕ) → userReply spans arrivals ≡ reply → eqb reply 0 ≡ false
       → UserLeaves reply spans rings rows octets arrivals
-  unfolding userQueues userRow userOctets userArrivals
+  unfolding userQueues rowsWithUser userOctets userArrivals
   user-refused reply e not0 = (sym e, (simp (e, not0), simp (e, not0)))
 
   -- one that isn't gets the free slot's row and octets, and the number
   pub user-done : (free : Taken) → free ≡ headOf (both spans rings) 33 → userReply spans arrivals ≡ 0
       → (spans′ rings′ rows′ octets′ : List ℕ) → both spans′ rings′ ≡ moved (both spans rings) 33 ring
-      → rows′ ≡ Message.userRows rows (free .slot) (nextOf arrivals) point sls (length message)
-      → octets′ ≡ Message.userOctets octets (free .slot) message
+      → rows′ ≡ Written.userRows rows (free .slot) (nextOf arrivals) point sls (length message)
+      → octets′ ≡ Written.userOctets octets (free .slot) message
       → UserLeaves 0 spans′ rings′ rows′ octets′ (counted arrivals)
-  unfolding userQueues userRow userOctets userArrivals
+  unfolding userQueues rowsWithUser userOctets userArrivals
   user-done free is e spans′ rings′ rows′ octets′ moves rows-are octets-are =
-      let row = Message.userRows rows (free .slot) (nextOf arrivals) point sls (length message) in
+      let row = Written.userRows rows (free .slot) (nextOf arrivals) point sls (length message) in
       let same : whole (moved (both spans rings) 33 ring) row (counted arrivals)
       ≡ withUser ring point sls (length message) (held spans rings rows arrivals) =
       simp (e, is)
       in
       (sym e, (held-whole spans′ rings′ rows′ (counted arrivals) same moves rows-are refl, octets-are ∙ simp (e, is)))
 
-module _ (spans rings arrivals rows : List ℕ) (ring heading point slc field : ℕ) where
+module _ (spans rings arrivals rows : List ℕ) (ring : ℕ) (message : Message) (point slc : ℕ) where
   -- the areas are those that a management message leaves
   abbrev pub ManagementLeaves : ℕ → List ℕ → List ℕ → List ℕ → List ℕ → Type 0
   ManagementLeaves reply spans′ rings′ rows′ arrivals′ =
       (reply ≡ managementReply spans arrivals)
-      × (held spans′ rings′ rows′ arrivals′ ≡ withManagement ring heading point slc field (held spans rings rows arrivals))
+      × (held spans′ rings′ rows′ arrivals′ ≡ withManagement ring message point slc (held spans rings rows arrivals))
 
   pub management-refused : (reply : ℕ) → managementReply spans arrivals ≡ reply → eqb reply 0 ≡ false
       → ManagementLeaves reply spans rings rows arrivals
-  unfolding managementQueues managementRow managementArrivals
+  unfolding managementQueues rowsWithManagement managementArrivals
   management-refused reply e not0 = (sym e, simp (e, not0))
 
   pub management-done : (free : Taken) → free ≡ headOf (both spans rings) 34 → managementReply spans arrivals ≡ 0
       → (spans′ rings′ rows′ : List ℕ) → both spans′ rings′ ≡ moved (both spans rings) 34 ring
-      → rows′ ≡ Message.managementRows rows (free .slot) (nextOf arrivals) heading point slc field
+      → (heading field : ℕ) → heading ≡ headingOf message → field ≡ fieldOf message
+      → rows′ ≡ Written.managementRows rows (free .slot) (nextOf arrivals) heading point slc field
       → ManagementLeaves 0 spans′ rings′ rows′ (counted arrivals)
-  unfolding managementQueues managementRow managementArrivals
-  management-done free is e spans′ rings′ rows′ moves rows-are =
-      let row = Message.managementRows rows (free .slot) (nextOf arrivals) heading point slc field in
+  unfolding managementQueues rowsWithManagement managementArrivals
+  management-done free is e spans′ rings′ rows′ moves heading field headed says rows-are =
+      let row = Written.managementRows rows (free .slot) (nextOf arrivals) (headingOf message) point slc (fieldOf message) in
       let same : whole (moved (both spans rings) 34 ring) row (counted arrivals)
-      ≡ withManagement ring heading point slc field (held spans rings rows arrivals) =
+      ≡ withManagement ring message point slc (held spans rings rows arrivals) =
       simp (e, is)
       in
-      (sym e, held-whole spans′ rings′ rows′ (counted arrivals) same moves rows-are refl)
+      let written =
+      ap (λ (h : ℕ). Written.managementRows rows (free .slot) (nextOf arrivals) h point slc field) headed
+      ∙ ap (λ (f : ℕ). Written.managementRows rows (free .slot) (nextOf arrivals) (headingOf message) point slc f) says
+      in
+      (sym e, held-whole spans′ rings′ rows′ (counted arrivals) same moves (rows-are ∙ written) refl)
 
 -- a management message that finds no place or number leaves all as it was
-pub management-kept : (ring heading point slc field : ℕ) (now : Held) → eqb (managementReply (now .queues .spans) (now .arrivals)) 0 ≡ false
-    → withManagement ring heading point slc field now ≡ now
-management-kept ring heading point slc field now lacks =
+pub management-kept : (ring : ℕ) (message : Message) (point slc : ℕ) (now : Held) → eqb (managementReply (now .queues .spans) (now .arrivals)) 0 ≡ false
+    → withManagement ring message point slc now ≡ now
+management-kept ring message point slc now lacks =
     sym
-    (management-refused (now .queues .spans) (now .queues .rings) (now .arrivals) (now .rows) ring heading point slc field _ refl lacks .1)
+    (management-refused (now .queues .spans) (now .queues .rings) (now .arrivals) (now .rows) ring message point slc _ refl lacks .1)

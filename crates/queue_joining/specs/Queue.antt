@@ -8,7 +8,9 @@ use lib.ListN.{getD, set}
 use Rattle.constants.specs.Constants.{freeUserRing, freeManagementRing}
 use Rattle.queue_rings.specs.Ring.{countOf}
 use Rattle.queue_slots.specs.Message.{userRows, managementRows}
-use Rattle.queue_slots.specs.Message as Message
+use Rattle.queue_slots.specs.Message as Written
+use Rattle.wire_messages.specs.declared.management.Message.{Message}
+use Rattle.wire_messages.specs.Management.{headingOf, fieldOf}
 use Rattle.replies.specs.Areas.{Lent, old, new}
 use Rattle.replies.specs.Reply.{Row, row, first, ifDone}
 use Rattle.queue_heads.specs.Head.{Queues, both, headOf, moved}
@@ -69,8 +71,8 @@ unfoldable pub userQueues : Queues → List ℕ → ℕ → Queues
 userQueues queues arrivals ring = ifDone (userReply (queues .spans) arrivals) (moved queues freeUserRing ring) queues
 
 -- what is known of it is written in the slot's row
-unfoldable pub userRow : Queues → List ℕ → List ℕ → ℕ → ℕ → ℕ → List ℕ
-userRow queues arrivals rows point sls size =
+unfoldable pub rowsWithUser : Queues → List ℕ → List ℕ → ℕ → ℕ → ℕ → List ℕ
+rowsWithUser queues arrivals rows point sls size =
     ifDone (userReply (queues .spans) arrivals)
     (userRows rows (headOf queues freeUserRing .slot) (nextOf arrivals) point sls size)
     rows
@@ -78,7 +80,7 @@ userRow queues arrivals rows point sls size =
 -- and "all their octets" (R68) in the slot
 unfoldable pub userOctets : Queues → List ℕ → List ℕ → List ℕ → List ℕ
 userOctets queues arrivals octets message =
-    ifDone (userReply (queues .spans) arrivals) (Message.userOctets octets (headOf queues freeUserRing .slot) message) octets
+    ifDone (userReply (queues .spans) arrivals) (Written.userOctets octets (headOf queues freeUserRing .slot) message) octets
 
 unfoldable pub userArrivals : List ℕ → List ℕ → List ℕ
 userArrivals spans arrivals = ifDone (userReply spans arrivals) (counted arrivals) arrivals
@@ -88,7 +90,7 @@ abbrev pub withUser : ℕ → ℕ → ℕ → ℕ → Held → Held
 withUser ring point sls size now =
     record {
       queues = userQueues (now .queues) (now .arrivals) ring;
-      rows = userRow (now .queues) (now .arrivals) (now .rows) point sls size;
+      rows = rowsWithUser (now .queues) (now .arrivals) (now .rows) point sls size;
       arrivals = userArrivals (now .queues .spans) (now .arrivals);
     }
 
@@ -97,8 +99,8 @@ unfoldable pub managementQueues : Queues → List ℕ → ℕ → Queues
 managementQueues queues arrivals ring = ifDone (managementReply (queues .spans) arrivals) (moved queues freeManagementRing ring) queues
 
 -- it is held as its fields
-unfoldable pub managementRow : Queues → List ℕ → List ℕ → ℕ → ℕ → ℕ → ℕ → List ℕ
-managementRow queues arrivals rows heading point slc field =
+unfoldable pub rowsWithManagement : Queues → List ℕ → List ℕ → ℕ → ℕ → ℕ → ℕ → List ℕ
+rowsWithManagement queues arrivals rows heading point slc field =
     ifDone (managementReply (queues .spans) arrivals)
     (managementRows rows (headOf queues freeManagementRing .slot) (nextOf arrivals) heading point slc field)
     rows
@@ -106,11 +108,11 @@ managementRow queues arrivals rows heading point slc field =
 unfoldable pub managementArrivals : List ℕ → List ℕ → List ℕ
 managementArrivals spans arrivals = ifDone (managementReply spans arrivals) (counted arrivals) arrivals
 
--- what is held then
-abbrev pub withManagement : ℕ → ℕ → ℕ → ℕ → ℕ → Held → Held
-withManagement ring heading point slc field now =
+-- what is held then: of the message its heading octet and its field
+abbrev pub withManagement : ℕ → Message → ℕ → ℕ → Held → Held
+withManagement ring message point slc now =
     record {
       queues = managementQueues (now .queues) (now .arrivals) ring;
-      rows = managementRow (now .queues) (now .arrivals) (now .rows) heading point slc field;
+      rows = rowsWithManagement (now .queues) (now .arrivals) (now .rows) (headingOf message) point slc (fieldOf message);
       arrivals = managementArrivals (now .queues .spans) (now .arrivals);
     }

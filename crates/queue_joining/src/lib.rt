@@ -5,6 +5,9 @@ use queue_heads::move_head;
 use queue_rings::ring::count;
 use queue_slots::message::write_management;
 use queue_slots::message::write_user;
+use wire_messages::management::Message;
+use wire_messages::management::field;
+use wire_messages::management::heading;
 ghost use mathlib.Core.Path.{_≡_};
 ghost use lib.ListN.{length};
 ghost use Rattle.replies.specs.Areas.{old, new};
@@ -57,14 +60,13 @@ pub fn queue_management(
     rows: &mut [u64; 2048],
     arrivals: &mut [u64; 1],
     ring: u8,
-    heading: u8,
+    message: Message,
     point: u16,
     slc: u8,
-    field: u16,
 ) -> u8
     ensures { λ r. ⌜ r ≡ Queue.managementReply (old spans) (old arrivals) ⌝ }
     ensures { λ r. ⌜ heldAfter spans rings rows arrivals ≡
-        Queue.withManagement ring heading point slc field (heldBefore spans rings rows arrivals) ⌝ }
+        Queue.withManagement ring message point slc (heldBefore spans rings rows arrivals) ⌝ }
 {
     if count(spans, FREE_MANAGEMENT) == 0 {
         return 8;
@@ -78,10 +80,10 @@ pub fn queue_management(
         rows,
         free.slot,
         next,
-        heading as u64,
+        heading(message) as u64,
         point as u64,
         slc as u64,
-        field as u64,
+        field(message) as u64,
     );
     arrivals[0] = next + 1;
     0

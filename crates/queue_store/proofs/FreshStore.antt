@@ -15,7 +15,7 @@ use Rattle.area_spans.specs.declared.Span.{Span}
 use Rattle.area_rows.proofs.Laws.{row-same, row-other, row-length}
 use Rattle.queue_rings.specs.Run.{run}
 use Rattle.queue_rings.specs.Ring.{cell, countOf, entry, queue}
-use Rattle.queue_store.specs.Fresh.{emptied, inOrder, listed, freshSpans, freshRings}
+use Rattle.queue_store.specs.Fresh.{emptied, inOrder, ringFilled, freshSpans, freshRings}
 use Rattle.queue_store.specs.Sound.{tally, sum, held, is, user, management, Sound, Kinds}
 use Rattle.queue_rings.proofs.Runs.{run-length, run-same, run-at}
 use borrow.Table.Steps.{cases}
@@ -77,26 +77,26 @@ module _ (spans : List ℕ) (long : length spans ≡ 70) where
       ∙ span-length (emptied spans 70) 33 usersFree
       ∙ emptied-length
 
--- the places of a ring from its first on, once it is listed; and those of another ring
+-- the places of a ring from its first on, once it is filled; and those of another ring
 module _ (rings : List ℕ) (ring first size : ℕ) (short : size ≤ 256) where
   short-run : length (run (inOrder first) 0 size) ≤ 256
   short-run = omega (arith, run-length (inOrder first) 0 size)
 
   listed-same : length rings ≡ 8960 → ring < 35 → (i : ℕ) → i < size
-      → wordAt 35 256 (listed rings ring first size) ring i ≡ (first + i) % 256
-  unfolding listed
+      → wordAt 35 256 (ringFilled rings ring first size) ring i ≡ (first + i) % 256
+  unfolding ringFilled
   listed-same wide h i l =
       let slots : List ℕ = run (inOrder first) 0 size in
       row-same 35 256 rings ring slots short-run h wide i (omega (arith, run-length (inOrder first) 0 size))
       ∙ simp zero-add at (run-at (inOrder first) 0 size i l)
 
   listed-other : (other : ℕ) → (other ≡ ring → ⊥) → (i : ℕ) → i < 256
-      → wordAt 35 256 (listed rings ring first size) other i ≡ wordAt 35 256 rings other i
-  unfolding listed
+      → wordAt 35 256 (ringFilled rings ring first size) other i ≡ wordAt 35 256 rings other i
+  unfolding ringFilled
   listed-other other apart i l = row-other 35 256 rings ring (run (inOrder first) 0 size) short-run other apart i l
 
-  listed-length : length (listed rings ring first size) ≡ length rings
-  unfolding listed
+  listed-length : length (ringFilled rings ring first size) ≡ length rings
+  unfolding ringFilled
   listed-length = row-length 35 256 rings ring (run (inOrder first) 0 size) short-run
 
 -- a ring that begins at its first place has the slots that stand from there on
@@ -129,19 +129,19 @@ module _ (spans rings : List ℕ) (long : length spans ≡ 70) (wide : length ri
   pub fresh-rings-length : length (freshRings rings) ≡ 8960
   unfolding freshRings
   fresh-rings-length =
-      listed-length (listed rings 33 0 192) 34 192 64 (omega arith) ∙ listed-length rings 33 0 192 (omega arith) ∙ wide
+      listed-length (ringFilled rings 33 0 192) 34 192 64 (omega arith) ∙ listed-length rings 33 0 192 (omega arith) ∙ wide
 
   users-slot : (i : ℕ) → i < 192 → wordAt 35 256 (freshRings rings) 33 i ≡ i
   unfolding freshRings
   users-slot i h =
-      listed-other (listed rings 33 0 192) 34 192 64 (omega arith) 33 (omega arith) i (omega arith)
+      listed-other (ringFilled rings 33 0 192) 34 192 64 (omega arith) 33 (omega arith) i (omega arith)
       ∙ listed-same rings 33 0 192 (omega arith) wide (omega arith) i h
       ∙ omega arith
 
   managements-slot : (i : ℕ) → i < 64 → wordAt 35 256 (freshRings rings) 34 i ≡ 192 + i
   unfolding freshRings
   managements-slot i h =
-      listed-same (listed rings 33 0 192) 34 192 64 (omega arith) (listed-length rings 33 0 192 (omega arith) ∙ wide) (omega arith) i h
+      listed-same (ringFilled rings 33 0 192) 34 192 64 (omega arith) (listed-length rings 33 0 192 (omega arith) ∙ wide) (omega arith) i h
       ∙ omega arith
 
   -- the user slots are free, in order

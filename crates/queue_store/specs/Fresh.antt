@@ -16,8 +16,8 @@ abbrev pub inOrder : ℕ → ℕ → ℕ
 inOrder first place = (first + place) % 256
 
 -- a ring's first places hold so many slots in order
-unfoldable pub listed : List ℕ → ℕ → ℕ → ℕ → List ℕ
-listed rings ring first size = withRow 35 256 rings ring (run (inOrder first) 0 size)
+unfoldable pub ringFilled : List ℕ → ℕ → ℕ → ℕ → List ℕ
+ringFilled rings ring first size = withRow 35 256 rings ring (run (inOrder first) 0 size)
 
 -- every ring is empty but those of the free slots (R17, R18)
 unfoldable pub freshSpans : List ℕ → List ℕ
@@ -26,4 +26,4 @@ freshSpans spans =
 
 -- the free user slots in ring 33, the free management slots in ring 34, all else as it was
 unfoldable pub freshRings : List ℕ → List ℕ
-freshRings rings = listed (listed rings freeUserRing 0 192) freeManagementRing 192 64
+freshRings rings = ringFilled (ringFilled rings freeUserRing 0 192) freeManagementRing 192 64

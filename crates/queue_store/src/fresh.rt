@@ -19,7 +19,7 @@ fn empty(spans: &mut [u16; 70])
 
 // The places of a ring from its first on hold the slots from `first` on.
 fn list(rings: &mut [u8; 8960], ring: u8, first: u8, size: u8)
-    ensures { λ r. ⌜ now (rings .exit) ≡ Fresh.listed (now (rings .entry)) ring first size ⌝ }
+    ensures { λ r. ⌜ now (rings .exit) ≡ Fresh.ringFilled (now (rings .entry)) ring first size ⌝ }
 {
     if 35 <= ring {
         return;

@@ -18,7 +18,7 @@ use Rattle.text.specs.declared.part.Part.{Part}
 use Rattle.text.specs.Part.{lineAt}
 use Rattle.replay_shift.specs.declared.run.Place.{Place}
 use Rattle.replay_shift.specs.declared.run.View.{View}
-use Rattle.replay_shift.specs.Shift.{Desk, deskAt, placeAt, pageWith, ran, ranLine, runBy, goesOn, linesFrom}
+use Rattle.replay_shift.specs.Shift.{Desk, deskAt, placeAt, pageWith, ranLines, ranLine, runBy, goesOn, linesFrom}
 use Rattle.replay_shift.proofs.Lines.{goes, stops-open, stops-desk}
 
 pub first-of : (a b : Bool) → (a && b) ≡ true → a ≡ true
@@ -107,7 +107,7 @@ kept-on out before p q h kept =
 module _ (plan : Plan) (view : View) (text : List ℕ) (from : Place) (m₀ : Memory) (message₀ out₀ : List ℕ) where
   -- where a run stands that began at a place
   pub record Going (m : Memory) (message out : List ℕ) (place : Place) : Type 0 where
-    pub same : ran plan view (linesFrom text (place .at)) (deskAt m message out place) ≡ ran plan view (linesFrom text (from .at)) (deskAt m₀ message₀ out₀ from)
+    pub same : ranLines plan view (linesFrom text (place .at)) (deskAt m message out place) ≡ ranLines plan view (linesFrom text (from .at)) (deskAt m₀ message₀ out₀ from)
     pub pending-is : place .pending ≡ from .pending + (length (take (place .pending) out) - length (take (from .pending) out₀))
     pub rest-is : drop (place .pending) out ≡ drop (place .pending) out₀
 
@@ -149,7 +149,7 @@ module _ (plan : Plan) (view : View) (text : List ℕ) (from : Place) (m₀ : Me
           let short′ : length (take (place′ .pending) out′) ≡ place′ .pending = length-take-le (place′ .pending) out′ (omega (arith, within, long′, page-long)) in
           record {
             same =
-                ap₂ (λ (n : ℕ) (e : Desk). ran plan view (linesFrom text n) e) at-next left
+                ap₂ (λ (n : ℕ) (e : Desk). ranLines plan view (linesFrom text n) e) at-next left
                 ∙ sym (goes text (place .at) part here plan view d refl closed-is goes-is)
                 ∙ going .same;
             pending-is = omega (arith, going .pending-is, grown, short, short′, some-room, length-take (from .pending) out₀, page-long);
@@ -171,9 +171,9 @@ module _ (plan : Plan) (view : View) (text : List ℕ) (from : Place) (m₀ : Me
         ap (λ (t : Bool). place .readable && t) full ∙ never (place .readable))
 
     -- no line more
-    pub stops : test ≡ false → deskAt m message out place ≡ ran plan view (linesFrom text (from .at)) (deskAt m₀ message₀ out₀ from)
+    pub stops : test ≡ false → deskAt m message out place ≡ ranLines plan view (linesFrom text (from .at)) (deskAt m₀ message₀ out₀ from)
     stops off =
-        let rest = ran plan view (linesFrom text (place .at)) d in
+        let rest = ranLines plan view (linesFrom text (place .at)) d in
         let ends : rest ≡ d =
         cases (part .closed)
         (λ e. stops-desk text (place .at) part here plan view d (linesFrom text (place .at)) (still e off))

@@ -15,7 +15,7 @@ use Rattle.text.specs.declared.part.Part.{Part}
 use Rattle.text.specs.Part.{lineAt, split, lf}
 use Rattle.text.proofs.Parts.{first-part, cut-length, next-onward, next-within}
 use Rattle.replay_shift.specs.declared.run.View.{View}
-use Rattle.replay_shift.specs.Shift.{Desk, ran, ranLine, goesOn, linesFrom}
+use Rattle.replay_shift.specs.Shift.{Desk, ranLines, ranLine, goesOn, linesFrom}
 
 module _ (text : List ℕ) (at : ℕ) (part : Part) (here : part ≡ lineAt text at) where
   -- the line at a place, and where LF ends it the lines behind it
@@ -39,36 +39,36 @@ module _ (text : List ℕ) (at : ℕ) (part : Part) (here : part ≡ lineAt text
 
   module _ (plan : Plan) (view : View) (d : Desk) where
     -- with no LF there is no line to run
-    pub stops-open : part .closed ≡ false → ran plan view (linesFrom text at) d ≡ d
-    unfolding ran
-    stops-open e = ap (λ (lines : List (List ℕ)). ran plan view lines d) (lines-are ∙ ap (λ (t : Bool). slice at (part .end) text ∷ cond t (linesFrom text (part .next)) []) e)
+    pub stops-open : part .closed ≡ false → ranLines plan view (linesFrom text at) d ≡ d
+    unfolding ranLines
+    stops-open e = ap (λ (lines : List (List ℕ)). ranLines plan view lines d) (lines-are ∙ ap (λ (t : Bool). slice at (part .end) text ∷ cond t (linesFrom text (part .next)) []) e)
 
     -- a run that stops runs nothing more
-    pub stops-desk : (lines : List (List ℕ)) → goesOn d ≡ false → ran plan view lines d ≡ d
-    unfolding ran
+    pub stops-desk : (lines : List (List ℕ)) → goesOn d ≡ false → ranLines plan view lines d ≡ d
+    unfolding ranLines
     stops-desk [] e = refl
     stops-desk (last ∷ []) e = refl
     stops-desk (line ∷ next ∷ more) e = simp e
 
     line-on : (line : List ℕ) (more : List (List ℕ)) (next : List ℕ) (rest : List (List ℕ)) → more ≡ next ∷ rest
-        → ran plan view (line ∷ more) d ≡ cond (goesOn d) (ran plan view more (ranLine plan view line (d .at + length line + 1) d)) d
-    unfolding ran
+        → ranLines plan view (line ∷ more) d ≡ cond (goesOn d) (ranLines plan view more (ranLine plan view line (d .at + length line + 1) d)) d
+    unfolding ranLines
     line-on line more next rest e =
         subst
-        (λ (m : List (List ℕ)). ran plan view (line ∷ m) d ≡ cond (goesOn d) (ran plan view m (ranLine plan view line (d .at + length line + 1) d)) d)
+        (λ (m : List (List ℕ)). ranLines plan view (line ∷ m) d ≡ cond (goesOn d) (ranLines plan view m (ranLine plan view line (d .at + length line + 1) d)) d)
         (sym e)
         refl
 
     -- the next line is run, and the lines behind it are left
     pub goes : at ≡ d .at → part .closed ≡ true → goesOn d ≡ true
-        → ran plan view (linesFrom text at) d ≡ ran plan view (linesFrom text (part .next)) (ranLine plan view (slice at (part .end) text) (part .next) d)
+        → ranLines plan view (linesFrom text at) d ≡ ranLines plan view (linesFrom text (part .next)) (ranLine plan view (slice at (part .end) text) (part .next) d)
     goes place e on =
         let line = slice at (part .end) text in
         let more = linesFrom text (part .next) in
         let next : d .at + length line + 1 ≡ part .next = omega (arith, place, past-line e) in
-        ap (λ (lines : List (List ℕ)). ran plan view lines d) (lines-are ∙ ap (λ (t : Bool). line ∷ cond t more []) e)
+        ap (λ (lines : List (List ℕ)). ranLines plan view lines d) (lines-are ∙ ap (λ (t : Bool). line ∷ cond t more []) e)
         ∙ line-on line more _ _ (first-part lf text (part .next) (length text))
-        ∙ ap₂ (λ (t : Bool) (n : ℕ). cond t (ran plan view more (ranLine plan view line n d)) d) on next
+        ∙ ap₂ (λ (t : Bool) (n : ℕ). cond t (ranLines plan view more (ranLine plan view line n d)) d) on next
 
 -- from the end of the text on there is no line
 none-behind : (text : List ℕ) (at : ℕ) → length text ≤ at → lineAt text at .closed ≡ false

@@ -10,13 +10,13 @@ use Rattle.text.specs.Put.{written}
 use Rattle.text_pages.specs.Page.{Page, page, puts, joined}
 use Rattle.text_pages.proofs.Pages.{puts-joined}
 
-pub record Stands (before : List ℕ) (at : ℕ) (pieces : List (List ℕ)) (out : List ℕ) (pending : ℕ) : Type 0 where
+pub record StandsOnPage (before : List ℕ) (at : ℕ) (pieces : List (List ℕ)) (out : List ℕ) (pending : ℕ) : Type 0 where
   pub pending-is : pending ≡ at + length (joined pieces)
   pub text-is : take pending out ≡ take at before ++ joined pieces
   pub rest-is : drop pending out ≡ drop pending before
 
 pub stands : (before : List ℕ) (at : ℕ) (pieces : List (List ℕ)) (out : List ℕ) (pending : ℕ)
-    → page out pending ≡ puts (page before at) pieces → at + length (joined pieces) ≤ length before → Stands before at pieces out pending
+    → page out pending ≡ puts (page before at) pieces → at + length (joined pieces) ≤ length before → StandsOnPage before at pieces out pending
 stands before at pieces out pending put room =
     let text = joined pieces in
     let all = put ∙ puts-joined before at pieces room in

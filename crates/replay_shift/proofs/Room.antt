@@ -22,12 +22,12 @@ use Rattle.replay_reports.specs.Reported.{reported, reportedFrom, allReported}
 use Rattle.replay_refusals.specs.Refused.{unreadable}
 use Rattle.replay_showing.specs.Reply.{replied, replyWord, behind}
 use Rattle.replay_routes.specs.Routed.{routed, routeWord}
-use Rattle.replay_answers.specs.Answers.{answered, listed}
+use Rattle.replay_answers.specs.Answers.{answered, listLines}
 use Rattle.replay_shift.specs.declared.run.View.{View}
 use Rattle.replay_shift.specs.Shift.{shown}
 
 -- pieces behind pieces are as long as both
-both-long : (one other : List (List ℕ)) → length (joined (one ++ other)) ≡ length (joined one) + length (joined other)
+pub both-long : (one other : List (List ℕ)) → length (joined (one ++ other)) ≡ length (joined one) + length (joined other)
 unfolding joined
 both-long [] other = omega arith
 both-long (piece ∷ one) other =
@@ -41,7 +41,7 @@ digits-long (suc most) n rest =
     (λ e. simp e (omega arith))
     (λ e. simp e (omega (arith, digits-long most (n / 10) ((48 + n % 10) ∷ rest))))
 
-decimal-long : (n : ℕ) → length (decimalOf n) ≤ 20
+pub decimal-long : (n : ℕ) → length (decimalOf n) ≤ 20
 decimal-long n = digits-long 20 n []
 
 -- a record of the report area
@@ -70,7 +70,7 @@ reports-long number reports k (suc more) =
       reports-long number reports (k + 1) more,
     )
 
-piece-long : (piece : List ℕ) (more : List (List ℕ)) → length (joined (piece ∷ more)) ≡ length piece + length (joined more)
+pub piece-long : (piece : List ℕ) (more : List (List ℕ)) → length (joined (piece ∷ more)) ≡ length piece + length (joined more)
 unfolding joined
 piece-long piece more = length-append piece (joined more)
 
@@ -124,7 +124,7 @@ routed-long number (line ∷ next ∷ more) =
 pub slice-long : (to : ℕ) (text : List ℕ) → length (slice 0 to text) ≤ length text
 slice-long to text = simp (length-drop, length-take) (omega arith)
 
-list-long : (shows : Shows) (number octets : ℕ) (out : List ℕ) → length out ≡ 4096 → length (joined (listed shows number octets out)) ≤ 118812
+pub list-long : (shows : Shows) (number octets : ℕ) (out : List ℕ) → length out ≡ 4096 → length (joined (listLines shows number octets out)) ≤ 118812
 unfolding joined
 list-long Sent number octets out h = omega arith
 list-long Delivered number octets out h = omega arith
@@ -168,36 +168,45 @@ module _ (number : ℕ) (answer : Answer) (message out reports : List ℕ) (shor
   reported-long =
       omega (arith, reports-are, reports-long number reports 0 (min (answer .reports) (length reports / 2)))
 
-  answer-long : (shows : Shows) → length (joined (answered number shows answer message out reports)) ≤ 163000
-  unfolding joined
-  answer-long shows =
-      let reply = replied number (answer .reply) in
-      let more = behind shows answer message out in
-      let told = allReported number reports (answer .reports) in
-      let list = listed shows number (answer .octets) out in
-      omega (
-        arith,
-        both-long (reply ++ (more ++ (ended ∷ []))) (told ++ list),
-        both-long reply (more ++ (ended ∷ [])),
-        both-long more (ended ∷ []),
-        both-long told list,
-        piece-long (decimalOf number) (replyWord ∷ decimalOf (answer .reply) ∷ []),
-        piece-long replyWord (decimalOf (answer .reply) ∷ []),
-        piece-long (decimalOf (answer .reply)) [],
-        decimal-long number,
-        decimal-long (answer .reply),
-        behind-long shows answer message out short out-long,
-        reported-long,
-        list-long shows number (answer .octets) out out-long,
-      )
+  -- the fates of a call, or the list of a question
+  module _ (shows : Shows) (fates : List (List ℕ))
+      (few : length (joined fates) + length (joined (listLines shows number (answer .octets) out)) ≤ 118812) where
+    answer-long : length (joined (answered number shows answer message out fates reports)) ≤ 163000
+    unfolding joined
+    answer-long =
+        let reply = replied number (answer .reply) in
+        let more = behind shows answer message out in
+        let told = allReported number reports (answer .reports) in
+        let list = listLines shows number (answer .octets) out in
+        omega (
+          arith,
+          both-long (reply ++ (more ++ (ended ∷ []))) (fates ++ (told ++ list)),
+          both-long reply (more ++ (ended ∷ [])),
+          both-long more (ended ∷ []),
+          both-long fates (told ++ list),
+          both-long told list,
+          piece-long (decimalOf number) (replyWord ∷ decimalOf (answer .reply) ∷ []),
+          piece-long replyWord (decimalOf (answer .reply) ∷ []),
+          piece-long (decimalOf (answer .reply)) [],
+          decimal-long number,
+          decimal-long (answer .reply),
+          behind-long shows answer message out short out-long,
+          reported-long,
+          few,
+        )
 
-  -- whatever is asked for
-  pub shown-long : (view : View) (shows : Shows) → length (joined (shown view number shows answer message out reports)) ≤ 163000
+    -- whatever is asked for
+    pub shown-long : (view : View) → length (joined (shown view number shows answer message out fates reports)) ≤ 163000
+    unfolding joined
+    shown-long view =
+        cases (leb (view .first) number && leb number (view .last))
+        (λ e. cases (view .only) (λ f. simp (e, f) (omega (arith, reported-long))) (λ f. simp (e, f) (omega (arith, answer-long))))
+        (λ e. simp e (omega arith))
+
+  -- of a question
+  pub asked-long : (view : View) (shows : Shows) → length (joined (shown view number shows answer message out [] reports)) ≤ 163000
   unfolding joined
-  shown-long view shows =
-      cases (leb (view .first) number && leb number (view .last))
-      (λ e. cases (view .only) (λ f. simp (e, f) (omega (arith, reported-long))) (λ f. simp (e, f) (omega (arith, answer-long shows))))
-      (λ e. simp e (omega arith))
+  asked-long view shows = shown-long shows [] (omega (arith, list-long shows number (answer .octets) out out-long)) view
 
 -- and of a line that can't be read
 pub unreadable-long : (number : ℕ) → length (joined (unreadable number)) ≤ 40

@@ -7,13 +7,10 @@ use native.Mathlib.Omega.{arith}
 use lib.ListN.{length, take, drop}
 use lib.Seq.{slice}
 use Rattle.plan.specs.declared.data.Plan.{Plan}
-use Rattle.replies.specs.declared.Answer.{Answer}
-use Rattle.replies.specs.Areas.{Areas, areas}
 use Rattle.node.specs.declared.ask.Question.{Question}
-use Rattle.node.specs.Memory.{Memory, memory, Result, Gives}
+use Rattle.node.specs.Memory.{Memory, memory}
 use Rattle.node.specs.Call.{callOf}
 use Rattle.node.specs.Ask.{askOf}
-use Rattle.node.specs.View.{viewOf}
 use Rattle.record_reading.specs.declared.Line.{Line}
 use Rattle.record_reading.specs.declared.Reading.{Reading}
 use Rattle.record_reading.specs.declared.Reading.the-variants.{Call, Asks, Unreadable}
@@ -21,20 +18,13 @@ use Rattle.record_reading.specs.Record.{readLine, messageAfter}
 use Rattle.text_pages.specs.Page.{page, puts, joined}
 use Rattle.replay_refusals.specs.Refused.{unreadable}
 use Rattle.replay_showing.specs.declared.shows.Shows.{Shows}
-use Rattle.replay_answers.specs.Answers.{showsOf, showsFor}
+use Rattle.replay_answers.specs.Answers.{showsFor}
 use Rattle.replay_shift.specs.declared.run.Place.{Place}
 use Rattle.replay_shift.specs.declared.run.View.{View}
-use Rattle.replay_shift.specs.Shift.{Desk, desk, deskAt, shown, onward, ranLine, runBy}
-use Rattle.replay_shift.proofs.OnPage.{Stands, stands}
-use Rattle.replay_shift.proofs.Room.{shown-long, unreadable-long}
-
--- the memory that a call gives is that of its result
-given-memory : (expected : Result) (r : Answer) (m : Memory) → Gives expected r m → m ≡ expected .after
-given-memory expected r m g i =
-    memory
-    (areas (g .in-links i) (g .in-marks i) (g .in-spans i) (g .in-rings i) (g .in-rows i) (g .in-arrivals i) (g .in-reports i))
-    (g .in-octets i)
-    (g .in-out i)
+use Rattle.replay_shift.specs.Shift.{Desk, desk, deskAt, shown, calledLines, onward, ranLine, runBy}
+use Rattle.replay_shift.proofs.OnPage.{StandsOnPage, stands}
+use Rattle.replay_shift.proofs.Room.{asked-long, unreadable-long}
+use Rattle.replay_shift.proofs.FatesRoom.{called-long}
 
 -- what one line leaves: the desk, a page with room, and behind its text what stood there
 pub record Leaves (expected : Desk) (m : Memory) (message before out : List ℕ) (place : Place) : Type 0 where
@@ -50,28 +40,26 @@ module _ (plan : Plan) (view : View) (line : List ℕ) (next : ℕ) (m₀ : Memo
   -- a line that says a call
   pub call-leaves :
       (said : Line) → Call said ≡ readLine area₀ line → (area : List ℕ) → area ≡ messageAfter area₀ line →
-      (message : List ℕ) → message ≡ slice 0 (said .octets) area → (m : Memory) (answer : Answer) →
-      Gives (callOf plan (said .event) message m₀) answer m → (shows : Shows) → shows ≡ showsOf (viewOf (said .event)) →
+      (message : List ℕ) → message ≡ slice 0 (said .octets) area → (m : Memory) → m ≡ callOf plan (said .event) message m₀ .after →
       (out : List ℕ) (pending : ℕ) →
-      page out pending ≡ puts (page out₀ (place .pending)) (shown view (place .number) shows answer message (m .out) (m .areas .reports)) →
+      page out pending ≡ puts (page out₀ (place .pending)) (calledLines plan view (place .number) (said .event) message m₀) →
       length message ≤ 1024 → length (m .out) ≡ 4096 → length (m .areas .reports) ≡ 1024 →
       (number : ℕ) → number ≡ onward (place .number) →
       Leaves (ranLine plan view line next from) m area out₀ out (record { at = next; number = number; pending = pending; readable = true })
-  call-leaves said reads area area-is message message-is m answer gives shows shows-is out pending put short out-long reports-long number number-is =
-      let pieces = shown view (place .number) shows answer message (m .out) (m .areas .reports) in
-      let long = shown-long (place .number) answer message (m .out) (m .areas .reports) short out-long reports-long view shows in
+  call-leaves said reads area area-is message message-is m after out pending put short out-long reports-long number number-is =
+      let pieces = calledLines plan view (place .number) (said .event) message m₀ in
+      let long =
+      called-long plan view (place .number) (said .event) message m₀ short
+      (ap (λ (n : Memory). length (n .out)) (sym after) ∙ out-long) (ap (λ (n : Memory). length (n .areas .reports)) (sym after) ∙ reports-long)
+      in
       let there = stands out₀ (place .pending) pieces out pending put (omega (arith, long, page-long, some-room)) in
       let told : message ≡ slice 0 (said .octets) (messageAfter area₀ line) = message-is ∙ ap (slice 0 (said .octets)) area-is in
-      let given = subst (λ (s : List ℕ). Gives (callOf plan (said .event) s m₀) answer m) told gives in
-      let made = callOf plan (said .event) (slice 0 (said .octets) (messageAfter area₀ line)) m₀ in
-      let after = given-memory made answer m given in
-      let lines : pieces ≡ shown view (place .number) (showsOf (viewOf (said .event))) (made .answer) (slice 0 (said .octets) (messageAfter area₀ line)) (made .after .out) (made .after .areas .reports) =
-      λ i. shown view (place .number) (shows-is i) (given .answers i) (told i) (after i .out) (after i .areas .reports)
-      in
+      let lines = ap (λ (s : List ℕ). calledLines plan view (place .number) (said .event) s m₀) told in
       let text = there .text-is ∙ ap (λ (p : List (List ℕ)). take (place .pending) out₀ ++ joined p) lines in
+      let left = after ∙ ap (λ (s : List ℕ). callOf plan (said .event) s m₀ .after) told in
       record {
         desk-is =
-            (λ i. desk (after i) (area-is i) (text i) next (number-is i) true)
+            (λ i. desk (left i) (area-is i) (text i) next (number-is i) true)
             ∙ ap (λ (reading : Reading). runBy reading plan view (messageAfter area₀ line) next from) reads;
         within = omega (arith, there .pending-is, long, some-room);
         rest-is = there .rest-is;
@@ -82,14 +70,14 @@ module _ (plan : Plan) (view : View) (line : List ℕ) (next : ℕ) (m₀ : Memo
       (question : Question) → Asks question ≡ readLine area₀ line → (area : List ℕ) → area ≡ messageAfter area₀ line →
       let told = askOf plan question m₀ in
       (sent : List ℕ) → sent ≡ told .after .out → (out : List ℕ) (pending : ℕ) →
-      page out pending ≡ puts (page out₀ (place .pending)) (shown view (place .number) (showsFor question) (told .answer) [] (told .after .out) (m₀ .areas .reports)) →
+      page out pending ≡ puts (page out₀ (place .pending)) (shown view (place .number) (showsFor question) (told .answer) [] (told .after .out) [] (m₀ .areas .reports)) →
       length sent ≡ 4096 → length (m₀ .areas .reports) ≡ 1024 →
       (number : ℕ) → number ≡ onward (place .number) →
       Leaves (ranLine plan view line next from) (memory (m₀ .areas) (m₀ .octets) sent) area out₀ out (record { at = next; number = number; pending = pending; readable = true })
   question-leaves question reads area area-is sent sent-is out pending put sent-long reports-long number number-is =
       let told = askOf plan question m₀ in
-      let pieces = shown view (place .number) (showsFor question) (told .answer) [] (told .after .out) (m₀ .areas .reports) in
-      let long = shown-long (place .number) (told .answer) [] (told .after .out) (m₀ .areas .reports) (omega arith) (ap length (sym sent-is) ∙ sent-long) reports-long view (showsFor question) in
+      let pieces = shown view (place .number) (showsFor question) (told .answer) [] (told .after .out) [] (m₀ .areas .reports) in
+      let long = asked-long (place .number) (told .answer) [] (told .after .out) (m₀ .areas .reports) (omega arith) (ap length (sym sent-is) ∙ sent-long) reports-long view (showsFor question) in
       let there = stands out₀ (place .pending) pieces out pending put (omega (arith, long, page-long, some-room)) in
       record {
         desk-is =

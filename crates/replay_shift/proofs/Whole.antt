@@ -21,7 +21,7 @@ use Rattle.text_pages.specs.Page.{joined}
 use Rattle.plan_configuration.specs.Configure.{configured}
 use Rattle.replay_refusals.specs.Refused.{unreadable, refusedBy}
 use Rattle.replay_shift.specs.declared.run.View.{View}
-use Rattle.replay_shift.specs.Shift.{Desk, desk, ran, ranLine, runBy, refused, goesOn, linesFrom, answersOf, toWrite, firstDesk, replayOf}
+use Rattle.replay_shift.specs.Shift.{Desk, desk, ranLines, ranLine, runBy, refused, goesOn, linesFrom, answersOf, toWrite, firstDesk, replayOf}
 use Rattle.replay_shift.proofs.Lines.{lines-are, past-line}
 use Rattle.replay_shift.proofs.Going.{first-of, by-next}
 
@@ -76,8 +76,8 @@ glued mark (x ∷ a) b =
     (λ e. simp e (ap (onFirst x) behind ∙ glue-first x (split mark a) (split mark b)))
 
 -- a desk that can't go on for a line that couldn't be read
-stopped-stays : (plan : Plan) (view : View) (d : Desk) (lines : List (List ℕ)) → d .readable ≡ false → ran plan view lines d ≡ d
-unfolding ran
+stopped-stays : (plan : Plan) (view : View) (d : Desk) (lines : List (List ℕ)) → d .readable ≡ false → ranLines plan view lines d ≡ d
+unfolding ranLines
 stopped-stays plan view d [] e = refl
 stopped-stays plan view d (last ∷ []) e = refl
 stopped-stays plan view d (line ∷ next ∷ more) e = simp e
@@ -128,13 +128,13 @@ module _ (plan : Plan) (view : View) where
 
   -- a turn over some lines, and what it leaves of them
   onward : (parts : List (List ℕ)) (d : Desk) (others : List (List ℕ)) → Some others
-      → d .text ++ left d (glue parts others) ≡ ran plan view parts d .text ++ left (ran plan view parts d) (glue (leftOf parts d) others)
-  unfolding ran leftOf glue
+      → d .text ++ left d (glue parts others) ≡ ranLines plan view parts d .text ++ left (ranLines plan view parts d) (glue (leftOf parts d) others)
+  unfolding ranLines leftOf glue
   onward [] d others some = refl
   onward (last ∷ []) d others some = refl
   onward (line ∷ next ∷ more) d others some =
       let there = ranLine plan view line (d .at + length line + 1) d in
-      let further = ran plan view (next ∷ more) there in
+      let further = ranLines plan view (next ∷ more) there in
       let rest = leftOf (next ∷ more) there in
       let written : Bool → List ℕ =
       λ t. cond t further d .text ++ left (cond t further d) (glue (cond t rest (line ∷ next ∷ more)) others)
@@ -160,8 +160,8 @@ module _ (plan : Plan) (view : View) where
 
   -- and they are the lines from the new place on
   lines-left : (text : List ℕ) (parts : List (List ℕ)) (d : Desk) → parts ≡ linesFrom text (d .at)
-      → leftOf parts d ≡ linesFrom text (ran plan view parts d .at)
-  unfolding ran leftOf
+      → leftOf parts d ≡ linesFrom text (ranLines plan view parts d .at)
+  unfolding ranLines leftOf
   lines-left text [] d is = is
   lines-left text (last ∷ []) d is = is
   lines-left text (line ∷ next ∷ more) d is =
@@ -183,7 +183,7 @@ module _ (plan : Plan) (view : View) where
       more-is ∙ ap (λ (t : Bool). cond t behind []) closed ∙ ap (linesFrom text) (sym place)
       in
       let told : Bool → Type 0 =
-      λ t. cond t (leftOf (next ∷ more) there) (line ∷ next ∷ more) ≡ linesFrom text (cond t (ran plan view (next ∷ more) there) d .at)
+      λ t. cond t (leftOf (next ∷ more) there) (line ∷ next ∷ more) ≡ linesFrom text (cond t (ranLines plan view (next ∷ more) there) d .at)
       in
       cases (goesOn d)
       (λ on. subst told (sym on) (lines-left text (next ∷ more) there next-is))
@@ -191,11 +191,11 @@ module _ (plan : Plan) (view : View) where
 
   -- a turn over a piece of a record, of which more is unread: what it writes, and then what is left, is what was left before it
   pub turn-onward : (piece unread : List ℕ) (d : Desk) →
-      let after = ran plan view (linesFrom piece (d .at)) d in
+      let after = ranLines plan view (linesFrom piece (d .at)) d in
       d .text ++ toWrite plan view d (split lf (slice (d .at) (length piece) piece ++ unread))
       ≡ after .text ++ toWrite plan view after (split lf (slice (after .at) (length piece) piece ++ unread))
   turn-onward piece unread d =
-      let after = ran plan view (linesFrom piece (d .at)) d in
+      let after = ranLines plan view (linesFrom piece (d .at)) d in
       ap (λ (lines : List (List ℕ)). d .text ++ left d lines) (glued lf (slice (d .at) (length piece) piece) unread)
       ∙ onward (linesFrom piece (d .at)) d (split lf unread) (some-part lf unread)
       ∙ ap (λ (lines : List (List ℕ)). after .text ++ left after (glue lines (split lf unread))) (lines-left piece (linesFrom piece (d .at)) d refl)
@@ -213,10 +213,10 @@ module _ (plan : Plan) (view : View) where
   -- was, and no line behind it is run
   pub stops-there : (line : List ℕ) (next : ℕ) (d : Desk) (lines : List (List ℕ)) → Unreadable ≡ readLine (d .message) line →
       let stopped = refused (messageAfter (d .message) line) next d in
-      (ranLine plan view line next d ≡ stopped) × (ran plan view lines (ranLine plan view line next d) ≡ stopped)
+      (ranLine plan view line next d ≡ stopped) × (ranLines plan view lines (ranLine plan view line next d) ≡ stopped)
   stops-there line next d lines reads =
       let here = sym (ap (λ (reading : Reading). runBy reading plan view (messageAfter (d .message) line) next d) reads) in
-      (here, ap (ran plan view lines) here ∙ stopped-stays plan view (refused (messageAfter (d .message) line) next d) lines refl)
+      (here, ap (ranLines plan view lines) here ∙ stopped-stays plan view (refused (messageAfter (d .message) line) next d) lines refl)
 
   -- a line that asks leaves the node as it was: every area and the octets of its messages; what is written stands in the lent output
   pub asking-changes-nothing : (line : List ℕ) (next : ℕ) (d : Desk) (question : Question) → Asks question ≡ readLine (d .message) line →
@@ -229,7 +229,7 @@ module _ (plan : Plan) (view : View) where
 -- the first turn of a run on the node that a configuration makes: with the theorem above, turn by turn, all that is written is the whole replay
 pub first-turn : (view : View) (configuration piece unread : List ℕ) → configured configuration .fault ≡ 0 →
     let plan = configured configuration .plan in
-    let after = ran plan view (linesFrom piece 0) firstDesk in
+    let after = ranLines plan view (linesFrom piece 0) firstDesk in
     replayOf view configuration (piece ++ unread)
     ≡ after .text ++ toWrite plan view after (split lf (slice (after .at) (length piece) piece ++ unread))
 first-turn view configuration piece unread e =

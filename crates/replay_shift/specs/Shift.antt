@@ -1,7 +1,7 @@
 -- A shift run again: "The reports must be those of the same calls made one at a time, and a line that can't be read stops the replay
 -- there, with the state of the lines before it." (R226, R227)
 use Prim.Native.Nat.{ℕ, _+_, _-_, _%_, _^_}
-use mathlib.Core.Bool.{Bool, true, false, cond, _&&_}
+use mathlib.Core.Bool.{Bool, true, false, cond, not, _&&_}
 use mathlib.Core.List.{List, [], _∷_, _++_}
 use lib.ListN.{length, take, drop, replicate}
 use lib.Seq.{slice}
@@ -12,7 +12,8 @@ use Rattle.replies.specs.declared.Answer.{Answer}
 use Rattle.node.specs.declared.ask.Question.{Question}
 use Rattle.replies.specs.Areas.{Lent, areas}
 use Rattle.start.specs.Start.{freshLinks, freshMarks, freshSpans, freshRings, freshArrivals}
-use Rattle.node.specs.Memory.{Memory, memory}
+use Rattle.node.specs.declared.call.Event.{Event}
+use Rattle.node.specs.Memory.{Memory, memory, Result}
 use Rattle.node.specs.Call.{callOf}
 use Rattle.node.specs.Ask.{askOf}
 use Rattle.node.specs.View.{viewOf}
@@ -25,16 +26,48 @@ use Rattle.text_pages.specs.Page.{joined}
 use Rattle.replay_reports.specs.Reported.{allReported}
 use Rattle.replay_refusals.specs.Refused.{unreadable, refusedBy}
 use Rattle.replay_showing.specs.declared.shows.Shows.{Shows}
-use Rattle.replay_answers.specs.Answers.{answered, showsOf, showsFor}
+use Rattle.queue_joining.specs.Queue.{nextOf}
+use Rattle.fate_places.specs.Places.{Held, held}
+use Rattle.fate_lines.specs.Lines.{fateLines}
+use Rattle.replay_fates.specs.Fates.{fatesOf}
+use Rattle.replay_answers.specs.Answers.{answered, showsOf, showsFor, toldOf}
 use Rattle.replay_shift.specs.declared.run.Place.{Place}
 use Rattle.replay_shift.specs.declared.run.View.{View}
 
 -- what is shown of an answer: its lines, or its reports alone; nothing where its line is outside those that are asked for
-abbrev pub shown : View → ℕ → Shows → Answer → List ℕ → List ℕ → List ℕ → List (List ℕ)
-shown view number shows answer message out reports =
+abbrev pub shown : View → ℕ → Shows → Answer → List ℕ → List ℕ → List (List ℕ) → List ℕ → List (List ℕ)
+shown view number shows answer message out fates reports =
     cond (leb (view .first) number && leb number (view .last))
-    (cond (view .only) (allReported number reports (answer .reports)) (answered number shows answer message out reports))
+    (cond (view .only) (allReported number reports (answer .reports)) (answered number shows answer message out fates reports))
     []
+
+-- the queues of a node
+abbrev pub heldIn : Memory → Held
+heldIn m = held (m .areas .spans) (m .areas .rings) (m .areas .rows)
+
+-- what became of messages by a call: by the memory before it, and its result
+abbrev pub callFates : ℕ → Event → Memory → Result → List (List ℕ)
+callFates number event m made =
+    fateLines number
+    (fatesOf (toldOf (viewOf event) (made .answer) (nextOf (m .areas .arrivals))) (made .after .areas .links) (heldIn m) (heldIn (made .after))
+    (made .after .areas .reports))
+
+-- all that is written of a call where its fates are shown
+abbrev pub fatedLines : Plan → ℕ → Event → List ℕ → Memory → List (List ℕ)
+fatedLines plan number event message m =
+    let made = callOf plan event message m in
+    answered number (showsOf (viewOf event)) (made .answer) message (made .after .out) (callFates number event m made) (made .after .areas .reports)
+
+-- whether fates are shown of a line
+abbrev pub tells : View → ℕ → Bool
+tells view number = (leb (view .first) number && leb number (view .last)) && (not (view .only) && view .fates)
+
+-- what is shown of a call; "with `--fates`" (docs/FORMATS.md) its fates too
+abbrev pub calledLines : Plan → View → ℕ → Event → List ℕ → Memory → List (List ℕ)
+calledLines plan view number event message m =
+    let made = callOf plan event message m in
+    shown view number (showsOf (viewOf event)) (made .answer) message (made .after .out)
+    (cond (view .fates) (callFates number event m made) []) (made .after .areas .reports)
 
 -- "counted from 1" (docs/FORMATS.md): the number of the line after, of 64 bits
 abbrev pub onward : ℕ → ℕ
@@ -55,18 +88,18 @@ desk memory message text at number readable =
     record { memory = memory; message = message; text = text; at = at; number = number; readable = readable }
 
 -- "the same calls made one at a time" (R226): a line's call is made, and what it answers is written
-abbrev pub called : Plan → View → Line → List ℕ → ℕ → Desk → Desk
-called plan view said area next d =
+abbrev pub calledOn : Plan → View → Line → List ℕ → ℕ → Desk → Desk
+calledOn plan view said area next d =
     let message = slice 0 (said .octets) area in
     let made = callOf plan (said .event) message (d .memory) in
-    let lines = shown view (d .number) (showsOf (viewOf (said .event))) (made .answer) message (made .after .out) (made .after .areas .reports) in
+    let lines = calledLines plan view (d .number) (said .event) message (d .memory) in
     desk (made .after) area (d .text ++ joined lines) next (onward (d .number)) true
 
 -- a line's question is answered, on a node that stays as it was
 abbrev pub asked : Plan → View → Question → List ℕ → ℕ → Desk → Desk
 asked plan view question area next d =
     let told = askOf plan question (d .memory) in
-    let lines = shown view (d .number) (showsFor question) (told .answer) [] (told .after .out) (told .after .areas .reports) in
+    let lines = shown view (d .number) (showsFor question) (told .answer) [] (told .after .out) [] (told .after .areas .reports) in
     desk (told .after) area (d .text ++ joined lines) next (onward (d .number)) true
 
 -- "Refusals: 30 with the line number, before any node check" (R228, R229): nothing else changes
@@ -74,7 +107,7 @@ abbrev pub refused : List ℕ → ℕ → Desk → Desk
 refused area next d = desk (d .memory) area (d .text ++ joined (unreadable (d .number))) next (d .number) false
 
 abbrev pub runBy : Reading → Plan → View → List ℕ → ℕ → Desk → Desk
-runBy (Call said) plan view area next d = called plan view said area next d
+runBy (Call said) plan view area next d = calledOn plan view said area next d
 runBy (Asks question) plan view area next d = asked plan view question area next d
 runBy Unreadable plan view area next d = refused area next d
 
@@ -87,11 +120,11 @@ abbrev pub goesOn : Desk → Bool
 goesOn d = d .readable && leb (length (d .text)) 65536
 
 -- the lines of a text that LF ends, in order
-unfoldable pub ran : Plan → View → List (List ℕ) → Desk → Desk
-ran plan view [] d = d
-ran plan view (last ∷ []) d = d
-ran plan view (line ∷ next ∷ more) d =
-    cond (goesOn d) (ran plan view (next ∷ more) (ranLine plan view line (d .at + length line + 1) d)) d
+unfoldable pub ranLines : Plan → View → List (List ℕ) → Desk → Desk
+ranLines plan view [] d = d
+ranLines plan view (last ∷ []) d = d
+ranLines plan view (line ∷ next ∷ more) d =
+    cond (goesOn d) (ranLines plan view (next ∷ more) (ranLine plan view line (d .at + length line + 1) d)) d
 
 -- the areas that a run needs: for the longest field of octets, for a route list, for 512 records, and a page with room behind its fill for
 -- the longest answer
@@ -100,7 +133,7 @@ sized d out =
     eqb (length (d .message)) 1024 && (eqb (length (d .memory .out)) 4096 && (eqb (length (d .memory .areas .reports)) 1024 && eqb (length out) 262144))
 
 abbrev pub ranAll : Plan → View → List (List ℕ) → List ℕ → Desk → Desk
-ranAll plan view lines out d = cond (sized d out) (ran plan view lines d) d
+ranAll plan view lines out d = cond (sized d out) (ranLines plan view lines d) d
 
 -- the lines of a text from a place on
 abbrev pub linesFrom : List ℕ → ℕ → List (List ℕ)

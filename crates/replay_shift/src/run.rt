@@ -1,12 +1,15 @@
 // The lines of a record, in order: each is read, called or asked, and answered.
 use node::ask::Question;
 use node::ask::ask;
+use node::call::Event;
 use node::call::call;
 use record_reading::Reading;
 use record_reading::read_line;
 use replay_answers::answer::put_answer;
+use replay_answers::answer::put_told;
 use replay_answers::answer::shown;
 use replay_answers::answer::shown_for;
+use replay_answers::answer::told;
 use replay_refusals::put_unreadable;
 use replay_reports::put_reports;
 use replay_showing::shows::Shows;
@@ -24,6 +27,7 @@ ghost use lib.Dec.{eqb, leb};
 ghost use lib.ListN.{length, drop};
 ghost use lib.Seq.{slice};
 ghost use Rattle.node.specs.Memory.{memoryBefore, memoryAfter};
+ghost use Rattle.node.specs.Call.{callOf};
 ghost use Rattle.node.specs.Ask.{answerTo, writtenFor};
 ghost use Rattle.replay_answers.specs.Answers.{showsFor};
 ghost use Rattle.text_pages.specs.Page.{page, puts};
@@ -39,11 +43,12 @@ pub struct Place {
     pub readable: bool,
 }
 
-// Which answers are shown: those of the lines from one to another, whole or their reports alone.
+// Which answers are shown: those of the lines from one to another, whole or their reports alone, and whether with their fates.
 pub struct View {
     pub first: u64,
     pub last: u64,
     pub only: bool,
+    pub fates: bool,
 }
 
 // The lines that end in a text, from a place on, until one can't be read or the page has its fill: it holds 65,536 octets and
@@ -158,9 +163,8 @@ fn run_line(
     match read_line(text, at, part.end, message) {
         Reading::Call(said) => {
             let event = said.event;
-            let shows = shown(event);
             let octets_of = between(message, 0, said.octets);
-            let answer = call(
+            let pending = put_called(
                 plan,
                 links,
                 marks,
@@ -171,19 +175,12 @@ fn run_line(
                 arrivals,
                 event,
                 octets_of,
+                view,
+                number,
                 sent,
                 reports,
-            );
-            let pending = put_shown(
                 out,
                 place.pending,
-                number,
-                view,
-                shows,
-                answer,
-                octets_of,
-                sent,
-                reports,
             );
             Place {
                 at: part.next,
@@ -218,6 +215,157 @@ fn run_line(
     }
 }
 
+// A call, and what is shown of its answer, on the page.
+fn put_called(
+    plan: &[u16; 1024],
+    links: &mut [u32; 256],
+    marks: &mut [u32; 512],
+    spans: &mut [u16; 70],
+    rings: &mut [u8; 8960],
+    rows: &mut [u64; 2048],
+    octets: &mut [u8; 52416],
+    arrivals: &mut [u64; 1],
+    event: Event,
+    message: &[u8],
+    view: View,
+    number: u64,
+    sent: &mut [u8],
+    reports: &mut [u64],
+    out: &mut [u8],
+    at: usize,
+) -> usize
+    ensures { λ r. ⌜ page (now (out .exit)) r ≡
+        puts (page (now (out .entry)) at)
+        (Shift.calledLines (planOf plan) view number event (now (message .entry)) (memoryBefore links marks spans rings rows arrivals reports octets sent)) ⌝ }
+    ensures { λ r. ⌜ memoryAfter links marks spans rings rows arrivals reports octets sent ≡
+        (callOf (planOf plan) event (now (message .entry)) (memoryBefore links marks spans rings rows arrivals reports octets sent)) .after ⌝ }
+{
+    if tells(view, number) {
+        return put_fated(
+            plan,
+            links,
+            marks,
+            spans,
+            rings,
+            rows,
+            octets,
+            arrivals,
+            event,
+            message,
+            number,
+            sent,
+            reports,
+            out,
+            at,
+        );
+    }
+    let answer = call(
+        plan,
+        links,
+        marks,
+        spans,
+        rings,
+        rows,
+        octets,
+        arrivals,
+        event,
+        message,
+        sent,
+        reports,
+    );
+    put_shown(
+        out,
+        at,
+        number,
+        view,
+        shown(event),
+        answer,
+        message,
+        sent,
+        reports,
+    )
+}
+
+// A call and all that is written of it, on the page, with its fates: for them its queues are kept as they were before it.
+fn put_fated(
+    plan: &[u16; 1024],
+    links: &mut [u32; 256],
+    marks: &mut [u32; 512],
+    spans: &mut [u16; 70],
+    rings: &mut [u8; 8960],
+    rows: &mut [u64; 2048],
+    octets: &mut [u8; 52416],
+    arrivals: &mut [u64; 1],
+    event: Event,
+    message: &[u8],
+    number: u64,
+    sent: &mut [u8],
+    reports: &mut [u64],
+    out: &mut [u8],
+    at: usize,
+) -> usize
+    ensures { λ r. ⌜ page (now (out .exit)) r ≡
+        puts (page (now (out .entry)) at)
+        (Shift.fatedLines (planOf plan) number event (now (message .entry)) (memoryBefore links marks spans rings rows arrivals reports octets sent)) ⌝ }
+    ensures { λ r. ⌜ memoryAfter links marks spans rings rows arrivals reports octets sent ≡
+        (callOf (planOf plan) event (now (message .entry)) (memoryBefore links marks spans rings rows arrivals reports octets sent)) .after ⌝ }
+{
+    let oldspans = *spans;
+    let oldrings = *rings;
+    let oldrows = *rows;
+    let next = arrivals[0];
+    let answer = call(
+        plan,
+        links,
+        marks,
+        spans,
+        rings,
+        rows,
+        octets,
+        arrivals,
+        event,
+        message,
+        sent,
+        reports,
+    );
+    let told = told(event, answer, next);
+    put_told(
+        out,
+        at,
+        number,
+        shown(event),
+        answer,
+        message,
+        sent,
+        reports,
+        told,
+        links,
+        &oldspans,
+        &oldrings,
+        &oldrows,
+        spans,
+        rings,
+        rows,
+    )
+}
+
+// Whether fates are shown of a line.
+fn tells(view: View, number: u64) -> bool
+    ensures { λ r. ⌜ r ≡ Shift.tells view number ⌝ }
+{
+    if number < view.first {
+        return false;
+    }
+    let last = view.last;
+    if last < number {
+        return false;
+    }
+    if view.only {
+        return false;
+    }
+    view.fates
+}
+
 // A question, and what is shown of its answer, on the page; the node is read and not changed.
 fn put_asked(
     plan: &[u16; 1024],
@@ -235,7 +383,7 @@ fn put_asked(
         puts (page (now (out .entry)) at)
         (Shift.shown view number (showsFor question)
         (answerTo (planOf plan) (now (links .entry)) (now (marks .entry)) (now (sent .entry)) question) []
-        (writtenFor (planOf plan) (now (links .entry)) (now (marks .entry)) (now (sent .entry)) question) (now (reports .entry))) ⌝ }
+        (writtenFor (planOf plan) (now (links .entry)) (now (marks .entry)) (now (sent .entry)) question) [] (now (reports .entry))) ⌝ }
     ensures { λ r. ⌜ now (sent .exit) ≡ writtenFor (planOf plan) (now (links .entry)) (now (marks .entry)) (now (sent .entry)) question ⌝ }
 {
     let answer = ask(plan, links, marks, question, sent);
@@ -256,7 +404,7 @@ fn put_shown(
     reports: &[u64],
 ) -> usize
     ensures { λ r. ⌜ page (now (out .exit)) r ≡
-        puts (page (now (out .entry)) at) (Shift.shown view number shows answer (now (message .entry)) (now (sent .entry)) (now (reports .entry))) ⌝ }
+        puts (page (now (out .entry)) at) (Shift.shown view number shows answer (now (message .entry)) (now (sent .entry)) [] (now (reports .entry))) ⌝ }
 {
     if number < view.first {
         return at;

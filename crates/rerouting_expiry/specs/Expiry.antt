@@ -10,6 +10,7 @@ use Rattle.plan.specs.Find.{placeOf, isFound}
 use Rattle.area_flags.specs.Flags.{flagAt, withFlag}
 use Rattle.replies.specs.Reply.{Row, row, first, ifDone}
 use Rattle.lookup.specs.Lookup.{isSet, rankBy}
+use Rattle.wire_messages.specs.declared.management.Message.the-variants.{RST}
 use Rattle.management_making.specs.declared.Draft.{Draft}
 
 -- whether a destination "named by the host" (R44) is configured; without a node none is
@@ -45,4 +46,4 @@ replyT10 plan marks x set = first (refusalsT10 plan marks x set)
 -- the RST to the set's adjacent point (R87, R146)
 unfoldable pub testOf : Plan → ℕ → ℕ → Draft
 testOf plan x set =
-    record { heading = 0x15; point = setAt plan set .adjacent; slc = 0; field = x; never = noLink }
+    record { message = RST x; point = setAt plan set .adjacent; slc = 0; never = noLink }

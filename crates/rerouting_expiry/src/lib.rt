@@ -9,6 +9,7 @@ use management_making::Draft;
 use plan_words::find::find;
 use plan_words::read::given;
 use plan_words::read::set_adjacent;
+use wire_messages::management::Message;
 ghost use Rattle.plan_words.specs.Words.{planOf};
 ghost use mathlib.Core.Path.{_≡_};
 ghost use Rattle.rerouting_expiry.specs.Expiry as Expiry;
@@ -88,10 +89,9 @@ pub fn test_of(plan: &[u16; 1024], x: u16, set: u8) -> Draft
 {
     let point = set_adjacent(plan, set);
     Draft {
-        heading: 0x15,
+        message: Message::RST(x),
         point,
         slc: 0,
-        field: x,
         never: NO_LINK,
     }
 }

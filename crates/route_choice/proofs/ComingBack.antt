@@ -13,7 +13,7 @@ use Rattle.plan.specs.declared.data.Plan.{Plan}
 use Rattle.plan.specs.Sound.{Sound}
 use Rattle.plan.proofs.Sound.{one-place}
 use Rattle.route_round.proofs.Lists.{there-alone}
-use Rattle.route_choice.specs.Chosen.{routeOf, usedLinks, Uses, Lost, Back, Takes, Stands, EachInOnePlace}
+use Rattle.route_choice.specs.Chosen.{routeOf, usedLinks, Uses, Lost, Back, Takes, StandsInSet, EachInOnePlace}
 use Rattle.plan.specs.Data.{linksOf, routesOf}
 use Rattle.route_choice.specs.Which.{none, goingRound, firstServing, someServes, usable}
 use Rattle.route_choice.proofs.Loss.{still-not, none-more}
@@ -64,7 +64,7 @@ module _ (serves serves′ : ℕ → Bool) (link : ℕ) (back : Back serves serv
           (λ better h. absurd (omega arith)))
 
       -- the link that the pair was on makes its set serve
-      pub own-set : (set : ℕ) → Stands plan from set → someServes serves (linksOf plan set) ≡ true
+      pub own-set : (set : ℕ) → StandsInSet plan from set → someServes serves (linksOf plan set) ≡ true
       own-set set stands =
           let before = used-before in
           let first = used-first serves marked plan destination sls (before .0) (before .1) in
@@ -72,7 +72,7 @@ module _ (serves serves′ : ℕ → Bool) (link : ℕ) (back : Back serves serv
           (ap serves (stands .stands-there ∙ sym (takes .was-on)) ∙ first .serves-there)
 
       -- where the link's own set served, the pair was on the first that serves behind the link, going round
-      pub came-from : (set : ℕ) (stands : Stands plan link set) → someServes serves (linksOf plan set) ≡ true
+      pub came-from : (set : ℕ) (stands : StandsInSet plan link set) → someServes serves (linksOf plan set) ≡ true
           → from ≡ firstServing serves (goingRound (stands .place) (linksOf plan set))
       came-from set stands some =
           let now = uses-now in
@@ -110,11 +110,11 @@ module _ (serves serves′ : ℕ → Bool) (link : ℕ) (back : Back serves serv
           ∙ ap (λ (s : ℕ). firstServing serves (goingRound (stands .place) (linksOf plan s))) (same .0)
 
     -- where one of two pairs that the link takes comes from the link's own set, both come from one link
-    pub taken-from-one : (set : ℕ) → Stands plan link set
+    pub taken-from-one : (set : ℕ) → StandsInSet plan link set
         → (marked marked′ : ℕ → Bool) (destination destination′ sls sls′ from from′ : ℕ)
         → Takes serves serves′ marked plan destination sls link from
         → Takes serves serves′ marked′ plan destination′ sls′ link from′
-        → Stands plan from set → from′ ≡ from
+        → StandsInSet plan from set → from′ ≡ from
     taken-from-one set stands marked marked′ destination destination′ sls sls′ from from′ takes takes′ own =
         let some = own-set marked destination sls from takes set own in
         came-from marked′ destination′ sls′ from′ takes′ set stands some

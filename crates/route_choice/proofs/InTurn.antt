@@ -8,7 +8,7 @@ use lib.Dec.{ltb}
 use lib.ListN.{length, List·getD-eq-default}
 use borrow.Author.Tests.{ltb-false}
 use borrow.Table.Steps.{cases}
-use Rattle.plan.specs.Data.{noSet, linksOf}
+use Rattle.plan.specs.Data.{absentSet, linksOf}
 use Rattle.plan.specs.declared.data.LinkSet.{LinkSet}
 use Rattle.plan.specs.declared.data.Plan.{Plan}
 use Rattle.plan.specs.declared.data.Route.{Route}
@@ -26,7 +26,7 @@ module _ (plan : Plan) (route : Route) (prohibited : Bool) where
   -- the links of the set that is named for a route are those it has to go round
   pub set-links : length (plan .sets) ≡ 8 → linksOf plan (setFor route prohibited) ≡ inTurn plan route prohibited
   set-links eight =
-      let none = List·getD-eq-default (plan .sets) noSet {n = 8} (omega arith) in
+      let none = List·getD-eq-default (plan .sets) absentSet {n = 8} (omega arith) in
       cases (route .given)
       (λ g.
       cases prohibited
@@ -34,5 +34,5 @@ module _ (plan : Plan) (route : Route) (prohibited : Bool) where
       (λ p.
       cases (ltb (route .set) 8)
       (λ l. simp (g, p, l))
-      (λ l. simp (g, p, l, none, List·getD-eq-default (plan .sets) noSet {n = route .set} (omega (arith, ltb-false (route .set) 8 l))))))
+      (λ l. simp (g, p, l, none, List·getD-eq-default (plan .sets) absentSet {n = route .set} (omega (arith, ltb-false (route .set) 8 l))))))
       (λ g. simp (g, none))

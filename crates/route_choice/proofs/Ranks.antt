@@ -12,8 +12,8 @@ use borrow.Table.Steps.{cases}
 use Rattle.plan.specs.declared.data.Destination.{Destination}
 use Rattle.plan.specs.declared.data.Plan.{Plan}
 use Rattle.plan.specs.declared.data.Route.{Route}
-use Rattle.plan.specs.Data.{noRoute, linksOf}
-use Rattle.route_choice.specs.Which.{none, Proper, ofSets, inTurn, someServes, linkFor, usable, linkFrom, chosen}
+use Rattle.plan.specs.Data.{absentRoute, linksOf}
+use Rattle.route_choice.specs.Which.{none, Proper, ofSets, inTurn, someServes, linkOfSet, usable, linkFrom, chosen}
 use Rattle.route_choice.proofs.Serving.{some-round, serving-exactly}
 
 -- a route that isn't usable stays so where its set doesn't come to serve, and a usable one where its set still does
@@ -59,7 +59,7 @@ module _ (serves marked : ℕ → Bool) (plan : Plan) where
   sets-alone sls rank [] = refl
   sets-alone sls rank (route ∷ worse) =
       ap
-      (cond (usable serves marked plan rank route) (linkFor serves (linksOf plan (route .set)) sls))
+      (cond (usable serves marked plan rank route) (linkOfSet serves (linksOf plan (route .set)) sls))
       (sets-alone sls (rank + 1) worse)
 
   -- a route is usable exactly if one of the links that it has to go round serves
@@ -73,7 +73,7 @@ module _ (serves marked : ℕ → Bool) (plan : Plan) where
 
   -- going round them finds a link exactly if the route is usable
   pub usable-exactly : Proper serves → (rank : ℕ) (route : Route) (sls : ℕ)
-      → ltb (linkFor serves (inTurn plan route (marked rank)) sls) none ≡ usable serves marked plan rank route
+      → ltb (linkOfSet serves (inTurn plan route (marked rank)) sls) none ≡ usable serves marked plan rank route
   usable-exactly proper rank route sls =
       simp (serving-exactly serves proper, some-round serves) (sym (usable-turn rank route))
 
@@ -93,9 +93,9 @@ module _ (serves marked : ℕ → Bool) (plan : Plan) where
 
   -- and the rule yields it
   pub usable-link : Proper serves → (rank : ℕ) (route : Route) (sls : ℕ) → usable serves marked plan rank route ≡ true
-      → ltb (linkFor serves (linksOf plan (route .set)) sls) none ≡ true
+      → ltb (linkOfSet serves (linksOf plan (route .set)) sls) none ≡ true
   usable-link proper rank route sls ready =
-      ap (λ (links : List ℕ). ltb (linkFor serves links sls) none) (sym (usable-all rank route ready))
+      ap (λ (links : List ℕ). ltb (linkOfSet serves links sls) none) (sym (usable-all rank route ready))
       ∙ usable-exactly proper rank route sls
       ∙ ready
 
@@ -106,11 +106,11 @@ module _ (serves marked : ℕ → Bool) (plan : Plan) where
 
     pub at-rank : (rank : ℕ) → rank < length routes
         → onward rank
-        ≡ cond (usable serves marked plan rank (getD routes rank noRoute))
-        (linkFor serves (linksOf plan (getD routes rank noRoute .set)) sls)
+        ≡ cond (usable serves marked plan rank (getD routes rank absentRoute))
+        (linkOfSet serves (linksOf plan (getD routes rank absentRoute .set)) sls)
         (onward (rank + 1))
     unfolding linkFrom
-    at-rank rank h = simp (add-one, drop-cons routes rank noRoute h)
+    at-rank rank h = simp (add-one, drop-cons routes rank absentRoute h)
 
     -- past the last rank there is no link
     pub past-ranks : (rank : ℕ) → length routes ≤ rank → none ≡ onward rank
@@ -118,9 +118,9 @@ module _ (serves marked : ℕ → Bool) (plan : Plan) where
     past-ranks rank h = simp (drop-of-length-le routes {i = rank} h)
 
     module _ (proper : Proper serves) (rank link : ℕ) (ranked : rank < length routes)
-        (found : link ≡ linkFor serves (inTurn plan (getD routes rank noRoute) (marked rank)) sls) where
-      usable-now : ltb link none ≡ usable serves marked plan rank (getD routes rank noRoute)
-      usable-now = ap (λ (l : ℕ). ltb l none) found ∙ usable-exactly proper rank (getD routes rank noRoute) sls
+        (found : link ≡ linkOfSet serves (inTurn plan (getD routes rank absentRoute) (marked rank)) sls) where
+      usable-now : ltb link none ≡ usable serves marked plan rank (getD routes rank absentRoute)
+      usable-now = ap (λ (l : ℕ). ltb l none) found ∙ usable-exactly proper rank (getD routes rank absentRoute) sls
 
       -- a route whose set yields no link is passed over
       pub rank-passed : none ≤ link → onward (rank + 1) ≡ onward rank
@@ -131,5 +131,5 @@ module _ (serves marked : ℕ → Bool) (plan : Plan) where
       rank-taken h =
           let ready = sym usable-now ∙ lt-ltb link none h in
           found
-          ∙ ap (λ (links : List ℕ). linkFor serves links sls) (usable-all rank (getD routes rank noRoute) ready)
+          ∙ ap (λ (links : List ℕ). linkOfSet serves links sls) (usable-all rank (getD routes rank absentRoute) ready)
           ∙ sym (at-rank rank ranked ∙ simp ready)

@@ -13,7 +13,7 @@ use borrow.Table.Steps.{cases}
 use Rattle.plan.specs.declared.data.Plan.{Plan}
 use Rattle.route_choice.specs.Chosen.{routeOf, usedLinks, turnOf, Uses, First, Chosen}
 use Rattle.plan.specs.Data.{routesOf}
-use Rattle.route_choice.specs.Which.{none, goingRound, firstServing, someServes, linkFor, usable, chosen}
+use Rattle.route_choice.specs.Which.{none, goingRound, firstServing, someServes, linkOfSet, usable, chosen}
 use Rattle.route_choice.proofs.Ranks.{usable-some, onward, at-rank, past-ranks}
 use Rattle.route_choice.proofs.Serving.{some-round}
 
@@ -61,7 +61,7 @@ module _ (serves marked : ℕ → Bool) (plan : Plan) (destination : ℕ) where
 
   -- the link is that of the set that is used
   pub used-link : (sls rank : ℕ) → Uses serves marked plan destination rank
-      → chosen serves marked plan destination sls ≡ linkFor serves (usedLinks plan destination rank) sls
+      → chosen serves marked plan destination sls ≡ linkOfSet serves (usedLinks plan destination rank) sls
   used-link sls rank uses =
       passed-over sls rank (omega (arith, uses .ranked)) (uses .none-better)
       ∙ at-rank serves marked plan sls (routesOf plan destination) rank (uses .ranked)

@@ -6,12 +6,12 @@ use Prim.Native.Nat.{ℕ, _%_, _<_}
 use lib.ListN.{length, getD}
 use Rattle.plan.specs.declared.data.Plan.{Plan}
 use Rattle.plan.specs.declared.data.Route.{Route}
-use Rattle.plan.specs.Data.{noRoute, linksOf, routesOf}
-use Rattle.route_choice.specs.Which.{none, goingRound, linkFor, usable, chosen}
+use Rattle.plan.specs.Data.{absentRoute, linksOf, routesOf}
+use Rattle.route_choice.specs.Which.{none, goingRound, linkOfSet, usable, chosen}
 
 -- a destination's route of a rank
 abbrev pub routeOf : Plan → ℕ → ℕ → Route
-routeOf plan destination rank = getD (routesOf plan destination) rank noRoute
+routeOf plan destination rank = getD (routesOf plan destination) rank absentRoute
 
 -- "A destination uses its usable route of best rank." (R81)
 pub record Uses (serves marked : ℕ → Bool) (plan : Plan) (destination rank : ℕ) : Type 0 where
@@ -40,7 +40,7 @@ pub record First (serves : ℕ → Bool) (turn : List ℕ) (link : ℕ) : Type 0
 pub record Chosen (serves marked : ℕ → Bool) (plan : Plan) (destination sls link : ℕ) : Type 0 where
   pub rank : ℕ
   pub best-route : Uses serves marked plan destination rank
-  pub of-its-set : link ≡ linkFor serves (usedLinks plan destination rank) sls
+  pub of-its-set : link ≡ linkOfSet serves (usedLinks plan destination rank) sls
   pub first-going-round : First serves (turnOf plan destination rank sls) link
 
 -- one link serves no more, and all others as before (R83)
@@ -61,7 +61,7 @@ pub record Takes (serves serves′ marked : ℕ → Bool) (plan : Plan) (destina
   pub is-on : chosen serves′ marked plan destination sls ≡ link
 
 -- a link stands in a set
-pub record Stands (plan : Plan) (link set : ℕ) : Type 0 where
+pub record StandsInSet (plan : Plan) (link set : ℕ) : Type 0 where
   pub place : ℕ
   pub in-the-set : place < length (linksOf plan set)
   pub stands-there : getD (linksOf plan set) place none ≡ link

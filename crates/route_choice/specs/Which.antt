@@ -8,7 +8,7 @@ use Rattle.plan.specs.declared.data.LinkSet.{LinkSet}
 use Rattle.plan.specs.declared.data.Route.{Route}
 use Rattle.plan.specs.Data.{linksOf, routesOf}
 -- the walking rule round a set
-pub use Rattle.route_round.specs.Round.{none, Proper, goingRound, linkFor}
+pub use Rattle.route_round.specs.Round.{none, Proper, goingRound, linkOfSet}
 unfoldable pub use Rattle.route_round.specs.Round.{firstServing, someServes}
 
 -- a plan of which only the sets are asked for
@@ -33,7 +33,7 @@ unfoldable pub linkFrom : (ℕ → Bool) → (ℕ → Bool) → Plan → ℕ →
 linkFrom serves marked plan sls rank [] = none
 linkFrom serves marked plan sls rank (route ∷ worse) =
     cond (usable serves marked plan rank route)
-    (linkFor serves (linksOf plan (route .set)) sls)
+    (linkOfSet serves (linksOf plan (route .set)) sls)
     (linkFrom serves marked plan sls (rank + 1) worse)
 
 -- the link of a pair (destination, SLS) (R13)

@@ -33,7 +33,7 @@ fn set_for(route: Route, prohibited: bool) -> u8
 
 // The link of a set for an SLS, 32 where none serves: its normal link, and the table's where that one doesn't serve.
 fn link_for(plan: &[u16; 1024], links: &[u32; 256], need: Need, set: u8, sls: u8) -> u8
-    ensures { λ r. ⌜ r ≡ Which.linkFor (State.serves (now (links .entry)) need) (linksOf (planOf plan) set) sls ⌝ }
+    ensures { λ r. ⌜ r ≡ Which.linkOfSet (State.serves (now (links .entry)) need) (linksOf (planOf plan) set) sls ⌝ }
 {
     if 8 <= set {
         return NO_LINK;

@@ -12,7 +12,7 @@ use Rattle.text_decimals.specs.Decimal.{digitsOn, decimalOf}
 use Rattle.text.specs.Part.{tab, lf}
 use borrow.Table.Steps.{cases}
 use Rattle.plan.specs.declared.data.Plan.{Plan}
-use Rattle.route_list.specs.RouteList.{inRow, headerLine, linkWord, linkOf, wordOf, codeOf, lineOf, linesFrom, listOf}
+use Rattle.route_list.specs.RouteList.{inRow, headerLine, linkWord, linkOf, wordOf, listedCode, lineOf, linesFrom, listOf}
 
 one-less : (k n : ℕ) → k < n → n - k ≡ suc (n - (k + 1))
 one-less k n h = omega arith
@@ -80,12 +80,12 @@ module _ (links marks : List ℕ) (plan : Plan) where
   lines-end destination count h = let none : count - destination ≡ 0 = omega arith in simp none
 
   -- the code of a destination and a row of sixteen links: at most 5 + 49 octets
-  pub line-few : (destination : ℕ) → codeOf plan destination < 65536 → length (lineOf links marks plan destination) ≤ 54
+  pub line-few : (destination : ℕ) → listedCode plan destination < 65536 → length (lineOf links marks plan destination) ≤ 54
   line-few destination small =
       simp length-append
       (omega (
         arith,
-        code-few (codeOf plan destination) small,
+        code-few (listedCode plan destination) small,
         row-few
             (wordOf links marks plan destination)
             (λ sls. word-few (linkOf links marks plan destination sls))
@@ -94,7 +94,7 @@ module _ (links marks : List ℕ) (plan : Plan) where
       ))
 
   -- all has room: at most 43 + 64 × 54 octets
-  module _ (small : (destination : ℕ) → codeOf plan destination < 65536) where
+  module _ (small : (destination : ℕ) → listedCode plan destination < 65536) where
     lines-few : (more destination : ℕ) → length (linesFrom links marks plan destination more) ≤ 54 * more
     unfolding linesFrom
     lines-few zero destination = omega arith

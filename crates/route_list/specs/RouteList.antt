@@ -8,10 +8,10 @@ use Rattle.replies.specs.declared.Answer.{Answer}
 use Rattle.text_decimals.specs.Decimal.{decimalOf}
 use Rattle.text.specs.Part.{tab, lf}
 use Rattle.plan.specs.declared.data.Plan.{Plan}
-use Rattle.route_serving.specs.declared.Need.{Need}
 use Rattle.route_serving.specs.State.{serves, isMarked}
 use Rattle.plan.specs.Data.{destinationAt}
 use Rattle.route_choice.specs.Which.{none, chosen}
+use Rattle.route_ways.specs.Way.{forUsers}
 
 -- a row: a word behind a tab for each of so many SLS from one on, and LF
 unfoldable pub inRow : (ℕ → List ℕ) → ℕ → ℕ → List ℕ
@@ -26,10 +26,6 @@ headerLine = 100 ∷ 101 ∷ 115 ∷ 116 ∷ inRow decimalOf 0 16
 abbrev pub linkWord : ℕ → List ℕ
 linkWord link = cond (ltb link none) (decimalOf link) (45 ∷ [])
 
--- what user messages need: a carrying link, whichever it is
-abbrev pub forUsers : Need
-forUsers = record { «open» = false; never = none }
-
 -- the link of each SLS, for a destination
 abbrev pub linkOf : List ℕ → List ℕ → Plan → ℕ → ℕ → ℕ
 linkOf links marks plan destination sls = chosen (serves links forUsers) (isMarked marks destination) plan destination sls
@@ -43,13 +39,13 @@ abbrev pub rowOf : List ℕ → List ℕ → Plan → ℕ → List ℕ
 rowOf links marks plan destination = inRow (wordOf links marks plan destination) 0 16
 
 -- the code of a destination
-abbrev pub codeOf : Plan → ℕ → ℕ
-codeOf plan destination = destinationAt plan destination .code
+abbrev pub listedCode : Plan → ℕ → ℕ
+listedCode plan destination = destinationAt plan destination .code
 
 -- a destination's line: its code, then the current link of each SLS
 abbrev pub lineOf : List ℕ → List ℕ → Plan → ℕ → List ℕ
 lineOf links marks plan destination =
-    decimalOf (codeOf plan destination) ++ rowOf links marks plan destination
+    decimalOf (listedCode plan destination) ++ rowOf links marks plan destination
 
 -- the lines of so many destinations from one on
 unfoldable pub linesFrom : List ℕ → List ℕ → Plan → ℕ → ℕ → List ℕ
@@ -73,9 +69,9 @@ laid out at octets = take at out ++ (octets ++ drop (at + length octets) out)
 abbrev pub listReply : List ℕ → Plan → ℕ
 listReply out plan = cond (ltb (length out) 4096) 1 (cond (plan .given) 0 2)
 
--- what is listed: nothing where it is refused
-abbrev pub listed : List ℕ → List ℕ → List ℕ → Plan → List ℕ
-listed out links marks plan = cond (ltb 0 (listReply out plan)) [] (listOf links marks plan)
+-- what is written: nothing where it is refused
+abbrev pub listWritten : List ℕ → List ℕ → List ℕ → Plan → List ℕ
+listWritten out links marks plan = cond (ltb 0 (listReply out plan)) [] (listOf links marks plan)
 
 -- what is answered: how many octets it has
 abbrev pub listAnswer : ℕ → ℕ → Answer

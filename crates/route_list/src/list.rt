@@ -26,9 +26,9 @@ pub fn route_list(
 ) -> Answer
     ensures { λ r. ⌜ r ≡
         RouteList.listAnswer (RouteList.listReply (now (out .entry)) (planOf plan))
-        (length (RouteList.listed (now (out .entry)) (now (links .entry)) (now (marks .entry)) (planOf plan))) ⌝ }
+        (length (RouteList.listWritten (now (out .entry)) (now (links .entry)) (now (marks .entry)) (planOf plan))) ⌝ }
     ensures { λ r. ⌜ now (out .exit) ≡
-        RouteList.laid (now (out .entry)) 0 (RouteList.listed (now (out .entry)) (now (links .entry)) (now (marks .entry)) (planOf plan)) ⌝ }
+        RouteList.laid (now (out .entry)) 0 (RouteList.listWritten (now (out .entry)) (now (links .entry)) (now (marks .entry)) (planOf plan)) ⌝ }
 {
     if out.len() < 4096 {
         return plain(1);

@@ -12,7 +12,7 @@ use lib.ListN.{length, getD, take, drop, replicate, List·getD-eq-default}
 use lib.Seq.{take-nil, drop-nil, drop-cons, take-append-le, drop-append-le}
 use borrow.Author.Tests.{ltb-true, ltb-false}
 use borrow.Table.Steps.{cases}
-use Rattle.route_round.specs.Round.{none, goingRound, firstServing, linkFor}
+use Rattle.route_round.specs.Round.{none, goingRound, firstServing, linkOfSet}
 use Rattle.route_round.specs.Table.{bitAt, patternOf, servesIn, places, placeFor}
 use Rattle.route_round.proofs.Lists.{map-drop, map-take, nil-of}
 
@@ -148,7 +148,7 @@ module _ (serves : ℕ → Bool) (links : List ℕ) where
 
     -- "the table is shown equal to the walking rule": a set's link stands at the place that the table has for its pattern
     pub by-table : (sls : ℕ) → 0 < length links
-        → linkFor serves links sls ≡ at (placeFor (patternOf serves links) (sls % length links))
+        → linkOfSet serves links sls ≡ at (placeFor (patternOf serves links) (sls % length links))
     by-table sls some =
         let start : ℕ = sls % length links in
         let inside : start < length links = mod-lt sls some in
@@ -162,13 +162,13 @@ module _ (serves : ℕ → Bool) (links : List ℕ) where
 -- a set's links, and the link that the rule gives
 module _ (serves : ℕ → Bool) (links : List ℕ) where
   -- without links there is none
-  pub no-links : (sls : ℕ) → length links ≡ 0 → none ≡ linkFor serves links sls
+  pub no-links : (sls : ℕ) → length links ≡ 0 → none ≡ linkOfSet serves links sls
   unfolding firstServing
   no-links sls empty = simp (nil-of links empty, drop-nil, take-nil)
 
   -- a normal link that serves is taken
   pub normal-taken : (sls : ℕ) → 0 < length links → serves (getD links (sls % length links) none) ≡ true
-      → getD links (sls % length links) none ≡ linkFor serves links sls
+      → getD links (sls % length links) none ≡ linkOfSet serves links sls
   unfolding firstServing
   normal-taken sls some e = simp (drop-cons links (sls % length links) none (mod-lt sls some), e)
 

@@ -8,7 +8,7 @@ use native.Mathlib.Nat.{add-zero, zero-add, mod-mod, div-div-eq-div-mul, div-one
 use native.Mathlib.Omega.{arith}
 use lib.Pow.{pow-add}
 use lib.ListN.{length, getD}
-use Rattle.route_round.specs.Round.{goingRound, firstServing, linkFor}
+use Rattle.route_round.specs.Round.{goingRound, firstServing, linkOfSet}
 use Rattle.route_round.specs.Table.{servesIn, places, placeFor, entry, digits}
 
 -- a test passes at each entry of a list and its place, counted from one on
@@ -42,7 +42,7 @@ past (suc n) x h = let before : n ≤ x = past n x (h .0) in let other : x ≡ n
 
 -- an entry is a digit
 entry-low : (number : ℕ) → entry number < 16
-entry-low number = omega (arith, min-le-right (linkFor (servesIn (number / 8)) places (number % 8)) 8)
+entry-low number = omega (arith, min-le-right (linkOfSet (servesIn (number / 8)) places (number % 8)) 8)
 
 -- each of some entries is a digit of their word
 pub digit-at : (k n number : ℕ) → k < n → digits n number / 2 ^ (4 * k) % 16 ≡ entry (number + k)

@@ -29,5 +29,5 @@ someServes serves [] = false
 someServes serves (link ∷ rest) = serves link || someServes serves rest
 
 -- "With m links, an SLS has its normal link at place SLS mod m; if that isn't carrying, the next carrying one going round." (R77, R78, R199, R233)
-abbrev pub linkFor : (ℕ → Bool) → List ℕ → ℕ → ℕ
-linkFor serves links sls = firstServing serves (goingRound (sls % length links) links)
+abbrev pub linkOfSet : (ℕ → Bool) → List ℕ → ℕ → ℕ
+linkOfSet serves links sls = firstServing serves (goingRound (sls % length links) links)

@@ -5,7 +5,7 @@ use mathlib.Core.List.{List, [], _∷_}
 use Prim.Native.Nat.{ℕ, zero, suc, min, _+_, _*_, _/_, _%_, _^_}
 use lib.Dec.{eqb, ltb}
 use lib.ListN.{getD}
-use Rattle.route_round.specs.Round.{none, linkFor}
+use Rattle.route_round.specs.Round.{none, linkOfSet}
 
 -- the bit of a place: 1 if its link serves, 0 if it doesn't or the set has fewer links
 abbrev pub bitAt : (ℕ → Bool) → List ℕ → ℕ → ℕ
@@ -33,7 +33,7 @@ places = 0 ∷ 1 ∷ 2 ∷ 3 ∷ 4 ∷ 5 ∷ 6 ∷ 7 ∷ []
 
 -- "the chosen place, or 8 for none" (R231): by the walking rule, with the places for links
 abbrev pub placeFor : ℕ → ℕ → ℕ
-placeFor pattern start = min (linkFor (servesIn pattern) places start) 8
+placeFor pattern start = min (linkOfSet (servesIn pattern) places start) 8
 
 -- the entry of a number, eight to a pattern
 abbrev pub entry : ℕ → ℕ

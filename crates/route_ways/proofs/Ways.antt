@@ -8,7 +8,7 @@ use lib.ListN.{replicate}
 use Rattle.plan.specs.declared.data.Plan.{Plan}
 use Rattle.plan.specs.declared.data.Route.{Route}
 use Rattle.plan.specs.declared.find.There.{There}
-use Rattle.plan.specs.Data.{noRoute, routesOf}
+use Rattle.plan.specs.Data.{absentRoute, routesOf}
 use Rattle.plan.specs.Find.{given, placeOf, thereOf}
 use Rattle.route_serving.specs.declared.Need.{Need}
 use Rattle.route_serving.specs.State.{serves, isMarked}
@@ -51,7 +51,7 @@ module _ (plan : Plan) (links marks : List ℕ) (need : Need) where
     routed e =
         let below = and-eq-true-iff (ltb (placeOf plan point) (given plan)) _ .0 (ap (λ (f : There). f .given) (sym searched) ∙ e) .0 in
         ap (λ (f : There). f .routes) searched
-        ∙ ap (λ (t : Bool). cond t (routesOf plan (placeOf plan point)) (replicate 4 noRoute)) below
+        ∙ ap (λ (t : Bool). cond t (routesOf plan (placeOf plan point)) (replicate 4 absentRoute)) below
 
     -- one has it
     pub way-there : there .given ≡ true → (link : ℕ)

@@ -56,8 +56,8 @@ Listed text at to f =
     (slice (f .one .next) (f .two .end) text)
     (slice (f .two .next) (f .three .end) text)
 
-pub listed : (text : List ℕ) (at to : ℕ) (f : Found) → f ≡ fieldsAt text at to → Listed text at to f
-listed text at to f e =
+pub fields-listed : (text : List ℕ) (at to : ℕ) (f : Found) → f ≡ fieldsAt text at to → Listed text at to f
+fields-listed text at to f e =
     let zero = fieldAt text at to in
     let one = fieldAt text (zero .next) to in
     let two = fieldAt text (one .next) to in

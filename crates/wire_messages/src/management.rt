@@ -42,6 +42,40 @@ pub fn total(message: Message) -> usize
     }
 }
 
+// The heading octet of a message.
+pub fn heading(message: Message) -> u8
+    ensures { λ r. ⌜ r ≡ Management.headingOf message ⌝ }
+{
+    match message {
+        Message::COO(_) => 0x11,
+        Message::COA(_) => 0x21,
+        Message::CBD(_) => 0x51,
+        Message::CBA(_) => 0x61,
+        Message::ECO => 0x12,
+        Message::ECA => 0x22,
+        Message::TFP(_) => 0x14,
+        Message::TFA(_) => 0x54,
+        Message::RST(_) => 0x15,
+    }
+}
+
+// What stands after the heading; nothing counts as 0.
+pub fn field(message: Message) -> u16
+    ensures { λ r. ⌜ r ≡ Management.fieldOf message ⌝ }
+{
+    match message {
+        Message::COO(fsn) => fsn as u16,
+        Message::COA(fsn) => fsn as u16,
+        Message::CBD(code) => code as u16,
+        Message::CBA(code) => code as u16,
+        Message::ECO => 0,
+        Message::ECA => 0,
+        Message::TFP(destination) => destination,
+        Message::TFA(destination) => destination,
+        Message::RST(destination) => destination,
+    }
+}
+
 // The management message that the octets, SIO and label among them, are.
 pub fn read_message(octets: &[u8]) -> MessageRead
     ensures { λ r. ⌜ r ≡ Management.readMessage (now (octets .entry)) ⌝ }

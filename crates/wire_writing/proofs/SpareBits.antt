@@ -14,7 +14,7 @@ use Rattle.wire_messages.specs.declared.management.Message.{Message}
 use Rattle.wire_messages.specs.declared.management.MessageRead.{MessageRead}
 use Rattle.wire_messages.specs.declared.management.MessageRead.the-variants.{Read, Malformed}
 use Rattle.wire.specs.Header.{siOf, niOf, lowFirst, fromLow, labelWord, headerOf, Octets}
-use Rattle.wire_writing.specs.Writing.{octetsOf, OnlySpare}
+use Rattle.wire_writing.specs.Writing.{octetsOf, FieldInRange, OnlySpare}
 use Rattle.wire_messages.specs.Management.{headingOf, totalOf, fieldOf, valuesOf, nine, headed, listed, exactly, readMessage}
 use Rattle.wire.proofs.Labels.{octets-part, from-low-first, from-low-below, low-first-from, word-back}
 use Rattle.wire.proofs.Places.{places, part-places}
@@ -67,7 +67,7 @@ two-places s (suc (suc zero)) h = refl
 two-places s (suc (suc (suc n))) h = absurd (omega arith)
 
 -- what reads as a message differs from its written form only in spare bits
-module _ (s : List ℕ) (message : Message) (octets : Octets s) (management : siOf (getD s 0 0) ≡ 0) (read : readMessage s ≡ Read message) where
+module _ (s : List ℕ) (message : Message) (octets : Octets s) (read : readMessage s ≡ Read message) where
   total : length s ≡ totalOf message
   total = exact (length s) (listed (getD s 5 0) (getD s 6 0) (getD s 7 0)) message read .1
 
@@ -102,20 +102,25 @@ module _ (s : List ℕ) (message : Message) (octets : Octets s) (management : si
   field-in-range : fieldOf message % valuesOf message ≡ fieldOf message
   field-in-range = ap (λ (x : ℕ). x % valuesOf message) (known .1) ∙ mod-mod _ (valuesOf message) ∙ sym (known .1)
 
-  pub only-spare-bits : OnlySpare message s (octetsOf (headerOf s .ni) (headerOf s .label) message)
-  only-spare-bits =
-      let low = mod-lt (fieldOf message) (values-some message) in
-      let small : fieldOf message % valuesOf message < 256 ^ (totalOf message - 6) = omega (arith, low, facts .room) in
-      record {
-        si-same = management ∙ sym (si-back (niOf (getD s 0 0)));
-        ni-same = sym (ni-back (niOf (getD s 0 0)) (mod-lt (getD s 0 0 / 64) (lit< tt)));
-        label-and-heading-same =
-            take-suc (drop 1 s) 4 0 (simp length-drop (omega (arith, total, facts .least)))
-            ∙ ap₂ (λ (label : List ℕ) (heading : ℕ). label ++ (heading ∷ [])) label-octets (getD-drop 1 s 4 0 ∙ known .0);
-        field-same =
-            ap (λ (x : List ℕ). fromLow x % valuesOf message) field-octets
-            ∙ sym (known .1)
-            ∙ sym field-in-range
-            ∙ sym (from-low-first (totalOf message - 6) (fieldOf message % valuesOf message) small);
-        total-same = total ∙ sym (facts .total);
-      }
+  -- what is read is in range
+  pub read-in-range : FieldInRange message
+  read-in-range = omega (arith, mod-lt (fieldOf message) (values-some message), field-in-range)
+
+  module _ (management : siOf (getD s 0 0) ≡ 0) where
+    pub only-spare-bits : OnlySpare message s (octetsOf (headerOf s .ni) (headerOf s .label) message)
+    only-spare-bits =
+        let low = mod-lt (fieldOf message) (values-some message) in
+        let small : fieldOf message % valuesOf message < 256 ^ (totalOf message - 6) = omega (arith, low, facts .room) in
+        record {
+          si-same = management ∙ sym (si-back (niOf (getD s 0 0)));
+          ni-same = sym (ni-back (niOf (getD s 0 0)) (mod-lt (getD s 0 0 / 64) (lit< tt)));
+          label-and-heading-same =
+              take-suc (drop 1 s) 4 0 (simp length-drop (omega (arith, total, facts .least)))
+              ∙ ap₂ (λ (label : List ℕ) (heading : ℕ). label ++ (heading ∷ [])) label-octets (getD-drop 1 s 4 0 ∙ known .0);
+          field-same =
+              ap (λ (x : List ℕ). fromLow x % valuesOf message) field-octets
+              ∙ sym (known .1)
+              ∙ sym field-in-range
+              ∙ sym (from-low-first (totalOf message - 6) (fieldOf message % valuesOf message) small);
+          total-same = total ∙ sym (facts .total);
+        }

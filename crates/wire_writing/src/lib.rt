@@ -1,6 +1,8 @@
 // The nine messages of signalling network management, written into a lent output.
 use wire::header::Label;
 use wire_messages::management::Message;
+use wire_messages::management::field;
+use wire_messages::management::heading;
 use wire_messages::management::total;
 ghost use mathlib.Core.Path.{_≡_};
 ghost use Rattle.wire.specs.Header.{labelWord};
@@ -45,38 +47,6 @@ fn label_word(label: Label) -> u32
     (label.dpc % 16384) as u32
         + 16384 * ((label.opc % 16384) as u32)
         + 268435456 * ((label.sls % 16) as u32)
-}
-
-fn heading(message: Message) -> u8
-    ensures { λ r. ⌜ r ≡ Management.headingOf message ⌝ }
-{
-    match message {
-        Message::COO(_) => 0x11,
-        Message::COA(_) => 0x21,
-        Message::CBD(_) => 0x51,
-        Message::CBA(_) => 0x61,
-        Message::ECO => 0x12,
-        Message::ECA => 0x22,
-        Message::TFP(_) => 0x14,
-        Message::TFA(_) => 0x54,
-        Message::RST(_) => 0x15,
-    }
-}
-
-fn field(message: Message) -> u16
-    ensures { λ r. ⌜ r ≡ Management.fieldOf message ⌝ }
-{
-    match message {
-        Message::COO(fsn) => fsn as u16,
-        Message::COA(fsn) => fsn as u16,
-        Message::CBD(code) => code as u16,
-        Message::CBA(code) => code as u16,
-        Message::ECO => 0,
-        Message::ECA => 0,
-        Message::TFP(destination) => destination,
-        Message::TFA(destination) => destination,
-        Message::RST(destination) => destination,
-    }
 }
 
 // How many values the field has: an FSN has 7 bits, a destination 14.

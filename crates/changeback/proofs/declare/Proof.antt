@@ -18,9 +18,6 @@ adjacent-of-requires c κs = search needs
 slc-of-requires : tie.Need-slc-of-requires
 slc-of-requires c κs = search needs
 
-cast-queue-management : tie.Need-cast-queue-management
-cast-queue-management c = search needs
-
 queue-management-requires : tie.Need-queue-management-requires
 queue-management-requires c κs = search needs
 
@@ -42,6 +39,5 @@ declare-spec =
     returns
     adjacent-of-requires
     slc-of-requires
-    cast-queue-management
     queue-management-requires
     returns-2)

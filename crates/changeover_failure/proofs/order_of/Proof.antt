@@ -14,16 +14,10 @@ adjacent-of-requires c κs = search needs
 slc-of-requires : tie.Need-slc-of-requires
 slc-of-requires c κs = search needs
 
-cast-t7 : tie.Need-cast-t7
-cast-t7 c = search needs
-
 returns : tie.Need-returns
 unfolding orderOf
-returns c =
-    let at-slc = c .before in
-    simp (at-slc .slc-of .ensures, at-slc .before .adjacent-of .ensures, at-slc .before .before .load-link .ensures)
+returns c = simp (c .slc-of .ensures, c .before .adjacent-of .ensures, c .before .before .load-link .ensures)
 
 pub order-of-spec : {M : Type 1} → statement M
 order-of-spec =
-    tie.close
-    (tie.spec load-link-requires adjacent-of-requires slc-of-requires cast-t7 returns)
+    tie.close (tie.spec load-link-requires adjacent-of-requires slc-of-requires returns)

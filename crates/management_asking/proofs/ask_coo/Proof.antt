@@ -25,9 +25,6 @@ load-link-requires c κs = search needs
 last-received-requires : tie.Need-last-received-requires
 last-received-requires c κs = search needs
 
-cast-t14 : tie.Need-cast-t14
-cast-t14 c = search needs
-
 emergency-of-requires : tie.Need-emergency-of-requires
 emergency-of-requires c κs = search needs
 
@@ -59,7 +56,6 @@ ask-coo-spec =
     returns
     load-link-requires
     last-received-requires
-    cast-t14
     emergency-of-requires
     cut-at-requires
     order-step-requires

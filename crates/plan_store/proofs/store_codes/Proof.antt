@@ -5,7 +5,7 @@ use Prim.Native.Nat.{_+_, _*_, _-_, _≤_}
 use native.Mathlib.Nat.{one-mul}
 use native.Mathlib.Omega.{arith}
 use lib.ListN.{length, drop}
-use Rattle.plan.specs.Data.{noDestination}
+use Rattle.plan.specs.Data.{absentDestination}
 use Rattle.plan.proofs.Tables.{unmapped}
 use Rattle.plan_store.specs.Layout.{codeWords, placed}
 use Rattle.plan_store.proofs.Placed.{placed-turn, placed-end}
@@ -50,7 +50,7 @@ loop-again : tie.Need-loop-again Inv-loop μ-loop
 loop-again c =
     let test = c .before in
     let loop = test .before .loop in
-    (omega arith, placed-turn codeWords 1 noDestination 272 _ _ _ _ (loop .i) 64 (all (test .before .before)) (test .loop-test .taken) (rw one-mul) (loop .inv .1))
+    (omega arith, placed-turn codeWords 1 absentDestination 272 _ _ _ _ (loop .i) 64 (all (test .before .before)) (test .loop-test .taken) (rw one-mul) (loop .inv .1))
 
 returns : tie.Need-returns Inv-loop μ-loop
 returns c =

@@ -7,7 +7,7 @@ use native.Mathlib.Nat.{add-zero}
 use native.Mathlib.Omega.{arith}
 use lib.ListN.{length, drop, length-map, List·getD-map}
 use lib.Seq.{sets}
-use Rattle.plan.specs.Data.{noRoute}
+use Rattle.plan.specs.Data.{absentRoute}
 use Rattle.plan.proofs.Tables.{unmapped}
 use Rattle.plan_store.specs.Layout.{routeWord}
 use Rattle.plan_store.proofs.Placed.{set-turn, set-end}
@@ -63,7 +63,7 @@ loop-again c =
     let loop = test .before .loop in
     let start = test .before .before in
     let routes = start .args .t3 in
-    let word = c .route-word .ensures ∙ sym (List·getD-map routeWord routes (loop .rank) noRoute) in
+    let word = c .route-word .ensures ∙ sym (List·getD-map routeWord routes (loop .rank) absentRoute) in
     (omega arith, set-turn (map routeWord routes) (loop .words) _ _ (loop .rank) 4 _ (four start) (test .loop-test .taken) word (loop .inv .1))
 
 returns : tie.Need-returns Inv-loop μ-loop

@@ -3,7 +3,7 @@
 use borrow.Author.Needs.{needs}
 use mathlib.Core.Path.{sym, ap, _∙_}
 use Rattle.record_kinds.specs.Kind.{fieldsOf}
-use Rattle.text_fields.proofs.Listed.{listed}
+use Rattle.text_fields.proofs.Listed.{fields-listed}
 use Rattle.record_entry.proofs.Readings.{unfit, fit}
 use Rattle.record_entry.proofs.read_entry.Statement.{statement}
 use Rattle.record_entry.proofs.read_entry.Tie as tie
@@ -31,7 +31,7 @@ returns c =
     let found = c .before .before .before .before .before .before .first-four in
     let asked = c .before .before .fields-of .ensures ∙ ap fieldsOf (c .before .before .before .form-of .ensures) in
     unfit (a .message .now) _ (found .result .count) _ _ _ _
-    (listed (a .text .now) (a .at) (a .to) (found .result) (found .ensures))
+    (fields-listed (a .text .now) (a .at) (a .to) (found .result) (found .ensures))
     (word .result .now)
     (word .ensures)
     (kind .result)
@@ -62,7 +62,7 @@ returns-2 c =
     let found = tested .before .before .before .before .before .before .first-four in
     let asked = tested .before .before .fields-of .ensures ∙ ap fieldsOf (tested .before .before .before .form-of .ensures) in
     fit (a .message .now) _ (found .result .count) _ _ _ _
-    (listed (a .text .now) (a .at) (a .to) (found .result) (found .ensures))
+    (fields-listed (a .text .now) (a .at) (a .to) (found .result) (found .ensures))
     (word .result .now)
     (word .ensures)
     (kind .result)

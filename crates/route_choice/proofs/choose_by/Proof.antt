@@ -11,10 +11,10 @@ use lib.ListN.{length, getD}
 use Rattle.plan.specs.declared.data.Plan.{Plan}
 use Rattle.plan.specs.declared.data.Route.{Route}
 use Rattle.route_serving.specs.State as State
-use Rattle.plan.specs.Data.{noRoute, linksOf}
+use Rattle.plan.specs.Data.{absentRoute, linksOf}
 use Rattle.plan_words.specs.Words.{planAt}
 use Rattle.plan_words.proofs.Said.{eight-sets}
-use Rattle.route_choice.specs.Which.{Proper, setFor, inTurn, linkFor, linkFrom}
+use Rattle.route_choice.specs.Which.{Proper, setFor, inTurn, linkOfSet, linkFrom}
 use Rattle.plan.proofs.Tables.{unmapped}
 use Rattle.route_choice.proofs.InTurn.{set-links}
 use Rattle.route_choice.proofs.Ranks.{onward, past-ranks, rank-passed, rank-taken}
@@ -47,18 +47,18 @@ four c = search (needs, unmapped)
 found : (c : tie.After-link-for Inv-ranks μ-ranks)
     → let at = c .before .before .before .before .before in
     let s = at .before in
-    let route = getD (s .args .t2) (at .ranks .rank) noRoute in
-    c .link-for .result ≡ linkFor (serving s) (inTurn (plan s) route (marks s (at .ranks .rank))) (s .args .sls)
+    let route = getD (s .args .t2) (at .ranks .rank) absentRoute in
+    c .link-for .result ≡ linkOfSet (serving s) (inTurn (plan s) route (marks s (at .ranks .rank))) (s .args .sls)
 found c =
     let at = c .before .before .before .before .before in
     let s = at .before in
     let sls = s .args .sls in
-    let route : Route = getD (s .args .t2) (at .ranks .rank) noRoute in
+    let route : Route = getD (s .args .t2) (at .ranks .rank) absentRoute in
     c .link-for .ensures
-    ∙ ap (λ (set : ℕ). linkFor (serving s) (linksOf (plan s) set) sls) (c .before .set-for .ensures)
-    ∙ ap (λ (links : List ℕ). linkFor (serving s) links sls)
+    ∙ ap (λ (set : ℕ). linkOfSet (serving s) (linksOf (plan s) set) sls) (c .before .set-for .ensures)
+    ∙ ap (λ (links : List ℕ). linkOfSet (serving s) links sls)
     (set-links (plan s) route (c .before .before .marked .result) (eight-sets (s .args .plan .now)))
-    ∙ ap (λ (mark : Bool). linkFor (serving s) (inTurn (plan s) route mark) sls) (c .before .before .marked .ensures)
+    ∙ ap (λ (mark : Bool). linkOfSet (serving s) (inTurn (plan s) route mark) sls) (c .before .before .marked .ensures)
 
 ranks-holds : tie.Need-ranks-holds Inv-ranks μ-ranks
 ranks-holds c = (omega arith, refl)

@@ -15,7 +15,7 @@ use Rattle.plan.proofs.Tables as Tables
 use Rattle.plan_words.specs.Words.{planAt}
 use Rattle.plan_words.proofs.Said.{eight-sets, eight-places}
 use Rattle.route_serving.specs.State as State
-use Rattle.route_choice.specs.Which.{none, linkFor}
+use Rattle.route_choice.specs.Which.{none, linkOfSet}
 use Rattle.route_round.specs.Table.{patternOf, placeFor}
 use Rattle.route_round.proofs.ByTable.{by-table, no-links, normal-taken}
 use Rattle.route_round.proofs.Lists.{in-front, taken-all}
@@ -106,7 +106,7 @@ place-for-requires c κs = search needs
 -- the rule's link stands at the table's place
 by-place : (c : tie.After-place-for)
     → let at = c .before .before .before .before .before in
-    linkFor (serving (set at)) (those (set at)) (set at .args .sls) ≡ getD (those (set at)) (c .place-for .result) none
+    linkOfSet (serving (set at)) (those (set at)) (set at .args .sls) ≡ getD (those (set at)) (c .place-for .result) none
 by-place c =
     let at = c .before .before .before .before .before in
     let s = set at in

@@ -8,7 +8,7 @@ use lib.ListN.{length}
 use Rattle.plan.specs.declared.data.Plan.{Plan}
 use Rattle.plan_words.specs.Words.{planAt}
 use Rattle.replies.specs.declared.Answer.{Answer}
-use Rattle.route_list.specs.RouteList.{listAnswer, listReply, listed, laid}
+use Rattle.route_list.specs.RouteList.{listAnswer, listReply, listWritten, laid}
 use Rattle.node.specs.declared.ask.Question.{Question}
 use Rattle.node.specs.declared.ask.Question.the-variants.{RouteList}
 use Rattle.node.specs.Ask.{answerTo, writtenFor}
@@ -17,7 +17,7 @@ use Rattle.node.proofs.ask.ask.Tie as tie
 
 -- what the route list answers and writes is what the question asks for
 listed-for : (plan : Plan) (links marks out : List ℕ) (question : Question) (r : Answer) (out′ : List ℕ)
-    → let text = listed out links marks plan in
+    → let text = listWritten out links marks plan in
     (r ≡ listAnswer (listReply out plan) (length text)) × (out′ ≡ laid out 0 text)
     → (r ≡ answerTo plan links marks out question) × (out′ ≡ writtenFor plan links marks out question)
 unfolding answerTo writtenFor

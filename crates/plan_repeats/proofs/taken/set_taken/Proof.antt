@@ -7,7 +7,7 @@ use Prim.Native.Nat.{ℕ, _-_}
 use native.Mathlib.Omega.{arith}
 use lib.Dec.{eqb}
 use Rattle.plan.specs.declared.data.Route.{Route}
-use Rattle.plan.specs.Data.{noRoute}
+use Rattle.plan.specs.Data.{absentRoute}
 use Rattle.plan.proofs.Tables.{unmapped}
 use Rattle.plan_repeats.proofs.Searches.{Searching, search-first, search-on, search-hit, search-last}
 use Rattle.plan_repeats.proofs.taken.set_taken.Statement.{statement}
@@ -34,7 +34,7 @@ array-copy-out-route c = search needs
 returns : tie.Need-returns Inv-loop μ-loop
 returns c =
     let loop = c .before .before .before .before .before .loop in
-    search-hit _ _ 4 (loop .i) (loop .inv) noRoute (omega arith)
+    search-hit _ _ 4 (loop .i) (loop .inv) absentRoute (omega arith)
     (simp (c .before .before .if1 .taken, c .if2 .taken))
 
 add-i : tie.Need-add-i Inv-loop μ-loop
@@ -46,7 +46,7 @@ loop-less c = search needs
 loop-again : tie.Need-loop-again Inv-loop μ-loop
 loop-again c =
     let loop = c .before .before .before .loop in
-    search-on _ _ 4 (loop .i) (loop .inv) noRoute (omega arith)
+    search-on _ _ 4 (loop .i) (loop .inv) absentRoute (omega arith)
     (⊎-elim (λ w. simp (w .0 .taken, w .2 .left)) (λ w. simp (w .left)) (c .if1 .came))
 
 returns-2 : tie.Need-returns-2 Inv-loop μ-loop

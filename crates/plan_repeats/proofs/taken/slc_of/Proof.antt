@@ -4,7 +4,7 @@ use mathlib.Core.Path.{_≡_, sym, ap}
 use native.Mathlib.Omega.{arith}
 use lib.ListN.{length, List·getD-eq-default}
 use Rattle.plan.specs.declared.data.Link.{Link}
-use Rattle.plan.specs.Data.{noLink}
+use Rattle.plan.specs.Data.{absentLink}
 use Rattle.plan.proofs.Tables.{unmapped}
 use Rattle.plan_repeats.proofs.taken.slc_of.Statement.{statement}
 use Rattle.plan_repeats.proofs.taken.slc_of.Tie as tie
@@ -23,7 +23,7 @@ long c = search (needs, unmapped)
 
 returns-2 : tie.Need-returns-2
 returns-2 c =
-    sym (ap (λ (link : Link). link .slc) (List·getD-eq-default (c .before .args .t1 .links) noLink (omega (arith, long (c .before)))))
+    sym (ap (λ (link : Link). link .slc) (List·getD-eq-default (c .before .args .t1 .links) absentLink (omega (arith, long (c .before)))))
 
 pub slc-of-spec : {M : Type 1} → statement M
 slc-of-spec = tie.close (tie.spec mul-l element-copy-out-l returns returns-2)

@@ -11,7 +11,7 @@ use lib.ListN.{length, take, set}
 use lib.Seq.{sets, take-all}
 use borrow.Author.Tests.{lt-ltb, le-ltb}
 use Rattle.queue_rings.specs.Run.{run}
-use Rattle.queue_store.specs.Fresh.{inOrder, listed}
+use Rattle.queue_store.specs.Fresh.{inOrder, ringFilled}
 use Rattle.queue_rings.proofs.Runs.{run-length, run-at, sets-next}
 use Rattle.queue_store.proofs.fresh.list.Statement.{statement}
 use Rattle.queue_store.proofs.fresh.list.Tie as tie
@@ -24,7 +24,7 @@ abbrev μ-loop : tie.MeasureT-loop
 μ-loop rings₀ ring first size from i₀ rings i = size - i
 
 returns : tie.Need-returns Inv-loop μ-loop
-unfolding listed
+unfolding ringFilled
 returns c = simp (le-ltb (c .before .args .ring) 35 (c .if1 .taken))
 
 mul-from : tie.Need-mul-from Inv-loop μ-loop
@@ -64,7 +64,7 @@ loop-again c =
     (omega arith, ap (λ (s : List ℕ). set s (256 * a .ring + l .i) (slot .result)) (l .inv .1) ∙ next)
 
 returns-2 : tie.Need-returns-2 Inv-loop μ-loop
-unfolding listed
+unfolding ringFilled
 returns-2 c =
     let l = c .before .loop in
     let a = c .before .before .before .args in

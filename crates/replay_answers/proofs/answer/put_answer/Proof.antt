@@ -6,7 +6,7 @@ use Rattle.text_pages.specs.Page.{ended}
 use Rattle.replay_reports.specs.Reported.{allReported}
 use Rattle.text_pages.proofs.Pages.{follow, last}
 use Rattle.replay_showing.specs.Reply.{replied, behind}
-use Rattle.replay_answers.specs.Answers.{listed}
+use Rattle.replay_answers.specs.Answers.{listLines}
 use Rattle.replay_answers.proofs.answer.put_answer.Statement.{statement}
 use Rattle.replay_answers.proofs.answer.put_answer.Tie as tie
 
@@ -30,7 +30,7 @@ returns c =
     let l = c .before .before .before .before .before .before .put-reports in
     let line = replied (a .number) (a .answer .reply) ++ (behind (a .shows) (a .answer) (a .message .now) (a .sent .now) ++ (ended ∷ [])) in
     let reports = allReported (a .number) (a .reports .now) (a .answer .reports) in
-    let list = listed (a .shows) (a .number) (a .answer .octets) (a .sent .now) in
+    let list = listLines (a .shows) (a .number) (a .answer .octets) (a .sent .now) in
     follow (a .out .now) (a .at) line (r .ensures)
     (follow (r .last .0) (r .result) {more = list} reports (l .ensures)
     (last {pieces = list} (c .before .before .put-listed .ensures)))

@@ -9,7 +9,7 @@ use Rattle.text_pages.specs.Page.{Page, page}
 use Rattle.text_pages.proofs.Pages.{ends, put-by}
 use Rattle.replay_showing.specs.declared.shows.Shows.{Shows}
 use Rattle.replay_routes.specs.Routed.{routed}
-use Rattle.replay_answers.specs.Answers.{listed}
+use Rattle.replay_answers.specs.Answers.{listLines}
 use Rattle.replay_answers.proofs.answer.put_listed.Statement.{statement}
 use Rattle.replay_answers.proofs.answer.put_listed.Tie as tie
 
@@ -18,7 +18,7 @@ abbrev start : tie.Start → Page
 start s = page (s .args .out .now) (s .args .at)
 
 abbrev told : tie.Start → Shows → List (List ℕ)
-told s w = listed w (s .args .number) (s .args .octets) (s .args .sent .now)
+told s w = listLines w (s .args .number) (s .args .octets) (s .args .sent .now)
 
 enum-told : tie.Need-enum-told
 enum-told c = search needs

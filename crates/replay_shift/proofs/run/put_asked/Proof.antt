@@ -32,7 +32,7 @@ returns c =
     let told = c .before .before .before .before .before .before .before .before .before .ask .ensures in
     let shows = c .before .before .before .before .before .before .shown-for .ensures in (
       c .before .before .put-shown .ensures
-          ∙ (λ i. puts (page (a .out .now) (a .at)) (shown (a .view) (a .number) (shows i) (told .0 i) [] (told .1 i) (a .reports .now))),
+          ∙ (λ i. puts (page (a .out .now) (a .at)) (shown (a .view) (a .number) (shows i) (told .0 i) [] (told .1 i) [] (a .reports .now))),
       told .1,
     )
 

@@ -19,17 +19,11 @@ read-line-requires c κs = search needs
 enum-known-said : tie.Need-enum-known-said
 enum-known-said c = search needs
 
-shown-requires : tie.Need-shown-requires
-shown-requires c κs = search needs
-
 between-requires : tie.Need-between-requires
 between-requires c κs = search needs
 
-call-requires : tie.Need-call-requires
-call-requires c κs = search needs
-
-put-shown-requires : tie.Need-put-shown-requires
-put-shown-requires c κs = search needs
+put-called-requires : tie.Need-put-called-requires
+put-called-requires c κs = search needs
 
 wrapping-add-u64-requires : tie.Need-wrapping-add-u64-requires
 wrapping-add-u64-requires c κs = search needs
@@ -50,7 +44,7 @@ put-unreadable-requires : tie.Need-put-unreadable-requires
 put-unreadable-requires c κs = search needs
 
 same-length : tie.Need-same-length
-same-length c = omega (arith, c .before .before .before .before .before .before .before .before .before .before .before .before .before .before .before .before .before .before .before .before .before .before .before .before .before .before .before .before .before .read-line)
+same-length c = omega (arith, c .before .before .before .before .before .before .before .before .before .before .before .before .before .before .before .before .before .before .before .before .before .before .before .before .before .read-line)
 
 same-length-2 : tie.Need-same-length-2
 same-length-2 c = search needs
@@ -63,23 +57,22 @@ same-length-4 c = search needs
 
 returns : tie.Need-returns
 returns c =
-    let a = c .before .before .before .before .before .before .before .before .before .before .before .before .before .before .before .before .before .before .before .before .before .before .before .before .before .before .before .before .before .before .before .before .before .before .before .before .args in
-    let asked = c .before .before .before .before .before .before .before .before .before .before .before .before .before .before .before .before .before .before .before .before .before .before .before .before .before .before .before .before .before .before .before .before .before .before .before .before .pre in
-    let read = c .before .before .before .before .before .before .before .before .before .before .before .before .before .before .before .before .before .before .before .before .before .before .before .before .before .before .before .before .before .read-line in
-    let said = c .before .before .before .before .before .before .before .before .before .before .before .before .before .before .before .before .before .before .before .before .before .before .before .before .before .said .given in
-    let shows = c .before .before .before .before .before .before .before .before .before .before .before .before .before .before .before .before .before .before .before .before .before .before .before .shown in
-    let part = c .before .before .before .before .before .before .before .before .before .before .before .before .before .before .before .before .before .before .before .before .before .between in
-    let called = c .before .before .before .before .before .before .before .before .before .before .before .call in
-    let put = c .before .before .before .put-shown in
+    let a = c .before .before .before .before .before .before .before .before .before .before .before .before .before .before .before .before .before .before .before .before .before .before .before .before .before .before .before .before .before .before .before .before .args in
+    let asked = c .before .before .before .before .before .before .before .before .before .before .before .before .before .before .before .before .before .before .before .before .before .before .before .before .before .before .before .before .before .before .before .before .pre in
+    let read = c .before .before .before .before .before .before .before .before .before .before .before .before .before .before .before .before .before .before .before .before .before .before .before .before .before .read-line in
+    let said = c .before .before .before .before .before .before .before .before .before .before .before .before .before .before .before .before .before .before .before .before .before .said .given in
+    let part = c .before .before .before .before .before .before .before .before .before .before .before .before .before .before .before .before .before .before .between in
+    let called = c .before .before .before .before .before .before .before .put-called in
     let wrapped = c .wrapping-add-u64 in
     let before = memory (areas (a .links .now) (a .marks .now) (a .spans .now) (a .rings .now) (a .rows .now) (a .arrivals .now) (a .reports .now)) (a .octets .now) (a .sent .now) in
-    let after = memory (areas (called .last .1 .0) (called .last .1 .1 .0) (called .last .1 .1 .1 .0) (called .last .1 .1 .1 .1 .0) (called .last .1 .1 .1 .1 .1 .0) (called .last .1 .1 .1 .1 .1 .1 .1 .0) (called .last .1 .1 .1 .1 .1 .1 .1 .1 .1 .1 .1 .0)) (called .last .1 .1 .1 .1 .1 .1 .0) (called .last .1 .1 .1 .1 .1 .1 .1 .1 .1 .1 .0) in
-    let sent-long : length (called .last .1 .1 .1 .1 .1 .1 .1 .1 .1 .1 .0) ≡ 4096 = omega (arith, asked, called) in
-    let reports-long : length (called .last .1 .1 .1 .1 .1 .1 .1 .1 .1 .1 .1 .0) ≡ 1024 = omega (arith, asked, called) in
+    let after = memory (areas (called .last .1 .0) (called .last .1 .1 .0) (called .last .1 .1 .1 .0) (called .last .1 .1 .1 .1 .0) (called .last .1 .1 .1 .1 .1 .0) (called .last .1 .1 .1 .1 .1 .1 .1 .0) (called .last .1 .1 .1 .1 .1 .1 .1 .1 .1 .1 .1 .1 .1 .0)) (called .last .1 .1 .1 .1 .1 .1 .0) (called .last .1 .1 .1 .1 .1 .1 .1 .1 .1 .1 .1 .1 .0) in
+    let sent-long : length (called .last .1 .1 .1 .1 .1 .1 .1 .1 .1 .1 .1 .1 .0) ≡ 4096 = omega (arith, asked, called) in
+    let reports-long : length (called .last .1 .1 .1 .1 .1 .1 .1 .1 .1 .1 .1 .1 .1 .0) ≡ 1024 = omega (arith, asked, called) in
     let left =
     call-leaves (planAt (a .plan .now)) (a .view) (slice (a .at) (a .part .end) (a .text .now)) (a .part .next) before (a .message .now) (a .out .now) (a .place)
-    (omega (arith, asked)) (omega (arith, asked)) (said .0 .0) (sym (said .1) ∙ read .ensures .0) (read .last .1 .1 .1 .0) (read .ensures .1) _ (part .ensures) after (called .result)
-    (called .ensures) (shows .result) (shows .ensures) (put .last .0) (put .result) (put .ensures) (omega (arith, asked, read, ap length (part .ensures), slice-long (said .0 .0 .octets) (read .last .1 .1 .1 .0))) sent-long reports-long (wrapped .result) (wrapped .ensures)
+    (omega (arith, asked)) (omega (arith, asked)) (said .0 .0) (sym (said .1) ∙ read .ensures .0) (read .last .1 .1 .1 .0) (read .ensures .1) _ (part .ensures) after
+    (called .ensures .1) (called .last .1 .1 .1 .1 .1 .1 .1 .1 .1 .1 .1 .1 .1 .1 .0) (called .result) (called .ensures .0)
+    (omega (arith, asked, read, ap length (part .ensures), slice-long (said .0 .0 .octets) (read .last .1 .1 .1 .0))) sent-long reports-long (wrapped .result) (wrapped .ensures)
     in
     (left .desk-is, (left .within, left .rest-is))
 
@@ -138,10 +131,8 @@ run-line-spec =
     (tie.spec
     read-line-requires
     enum-known-said
-    shown-requires
     between-requires
-    call-requires
-    put-shown-requires
+    put-called-requires
     wrapping-add-u64-requires
     enum-known-question
     wrapping-add-u64-requires-2

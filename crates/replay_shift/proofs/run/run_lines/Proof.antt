@@ -12,7 +12,7 @@ use Rattle.plan_words.specs.Words.{planAt}
 use Rattle.replies.specs.Areas.{areas}
 use Rattle.node.specs.Memory.{memory}
 use Rattle.replay_shift.proofs.Lines.{less-left}
-use Rattle.replay_shift.specs.Shift.{deskAt, linesFrom, ran, sized}
+use Rattle.replay_shift.specs.Shift.{deskAt, linesFrom, ranLines, sized}
 use Rattle.replay_shift.proofs.Going.{Going, begins, goes-further, stops, ended, sizes-of, line-of, room-of, next-at}
 use Rattle.replay_shift.proofs.run.run_lines.Statement.{statement}
 use Rattle.replay_shift.proofs.run.run_lines.Tie as tie
@@ -44,7 +44,7 @@ returns c =
     let a = c .before .before .before .before .before .before .before .args in
     let m = memory (areas (a .links .now) (a .marks .now) (a .spans .now) (a .rings .now) (a .rows .now) (a .arrivals .now) (a .reports .now)) (a .octets .now) (a .sent .now) in
     let d = deskAt m (a .message .now) (a .out .now) (a .from) in
-    let whole = ran (planAt (a .plan .now)) (a .view) (linesFrom (a .text .now) (a .from .at)) d in
+    let whole = ranLines (planAt (a .plan .now)) (a .view) (linesFrom (a .text .now) (a .from .at)) d in
     let off : sized d (a .out .now) ≡ false = sym (c .before .fit .ensures) ∙ not-true (c .before .fit .result) (c .if1 .taken) in
     let is : d ≡ cond (sized d (a .out .now)) whole d = sym (ap (λ (t : Bool). cond t whole d) off) in
     ended (planAt (a .plan .now)) (a .view) (a .text .now) (a .from) m (a .message .now) (a .out .now) m (a .message .now) (a .out .now) (a .from)
@@ -129,7 +129,7 @@ returns-2 c =
     let found = c .before .before .line in
     let m = memory (areas (a .links .now) (a .marks .now) (a .spans .now) (a .rings .now) (a .rows .now) (a .arrivals .now) (a .reports .now)) (a .octets .now) (a .sent .now) in
     let d = deskAt m (a .message .now) (a .out .now) (a .from) in
-    let whole = ran (planAt (a .plan .now)) (a .view) (linesFrom (a .text .now) (a .from .at)) d in
+    let whole = ranLines (planAt (a .plan .now)) (a .view) (linesFrom (a .text .now) (a .from .at)) d in
     let fits : sized d (a .out .now) ≡ true = sym (c .before .before .before .before .before .fit .ensures) ∙ not-false (c .before .before .before .before .before .fit .result) (c .before .before .before .before .if1 .left) in
     let sizes = sizes-of (length (a .message .now)) (length (a .sent .now)) (length (a .reports .now)) (length (a .out .now)) fits in
     let off = sym (c .before .goes-on .ensures) ∙ not-true (c .before .goes-on .result) (c .if2 .taken) in

@@ -1,0 +1,14 @@
+pub mod Flags
+pub mod Turned
+pub mod LetGo
+pub mod T6Ends
+pub mod Each
+pub mod Steady
+pub mod Coded
+pub mod Joining
+pub mod Receiving
+pub mod Calls
+pub mod WhileT6
+pub mod MarksLong
+pub mod Transfers
+pub mod StayApart

@@ -1,0 +1,3 @@
+pub mod LetGo
+pub mod WhileT6
+pub mod Transfers

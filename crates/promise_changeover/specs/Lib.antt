@@ -1,0 +1,2 @@
+pub mod ChangedOver
+pub mod DemandThree

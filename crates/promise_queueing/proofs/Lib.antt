@@ -1,0 +1,7 @@
+pub mod Holding
+pub mod Only
+pub mod Full
+pub mod Joining
+pub mod JoiningTFP
+pub mod JoiningCalls
+pub mod NewJoins

@@ -1,0 +1,10 @@
+pub mod Apart
+pub mod Silent
+pub mod Telling
+pub mod Writes
+pub mod Unwritten
+pub mod Quiet
+pub mod ByCode
+pub mod SameAccess
+pub mod Accesses
+pub mod Exactly

@@ -1,0 +1,3 @@
+pub mod Tells
+pub mod Unwritten
+pub mod ByCode
