@@ -1,5 +1,8 @@
-// Files named by arguments and read in large pieces. What can't be opened or read is said on standard error.
-
+// Files named by arguments and read in large pieces. What can't be opened or read is told.
+use crate::complaint::complain_of;
+use libc::SEEK_CUR;
+use libc::SEEK_END;
+use libc::SEEK_SET;
 use std::num::wrapping_add_usize;
 
 // A file and how many octets of it came, or that it failed.
@@ -15,28 +18,44 @@ pub fn begin(argument: usize, area: &mut [u8]) -> File {
     let length = os::arg(argument, &mut path);
     let fd = os::open_read(&path[..length]);
     if fd < 0 {
-        os::fail(&path[..length]);
+        complain_of(&path[..length]);
         return failure(fd);
     }
     let file = more(fd, area, 0);
     if file.failed {
-        os::fail(&path[..length]);
+        complain_of(&path[..length]);
     }
     file
 }
 
 // All of the file that an argument names, as far as the area holds it.
-pub fn read(argument: usize, area: &mut [u8]) -> File {
-    let file = begin(argument, area);
+pub fn read(argument: usize, area: &mut [u8; 65536]) -> File {
+    let first = begin(argument, area);
+    if first.failed {
+        return first;
+    }
+    let file = rest(first, area);
     if file.failed {
-        return file;
+        complain_of(b"the configuration");
     }
-    let rest = fill(file.fd, area, file.count);
-    File {
-        failed: false,
-        fd: file.fd,
-        count: wrapping_add_usize(file.count, rest),
+    libc::close(file.fd);
+    file
+}
+
+// What is behind a first piece.
+pub fn rest(first: File, area: &mut [u8; 65536]) -> File {
+    let mut file = first;
+    let mut turns = 65536usize;
+    while 0 < turns {
+        turns -= 1;
+        let next = more(file.fd, area, file.count);
+        if next.count == 0 {
+            file.failed = next.failed;
+            break;
+        }
+        file.count = wrapping_add_usize(file.count, next.count);
     }
+    file
 }
 
 // The next piece of a file, from a place of the area on.
@@ -56,18 +75,25 @@ pub fn more(fd: i32, area: &mut [u8], from: usize) -> File {
     }
 }
 
-// As much of a file as the area holds from a place on.
-fn fill(fd: i32, area: &mut [u8], from: usize) -> usize {
-    if area.len() < from {
-        return 0;
-    }
-    io::read_full(fd, &mut area[from..])
-}
-
 fn failure(fd: i32) -> File {
     File {
         failed: true,
         fd,
         count: 0,
     }
+}
+
+// How many octets a file has; 0 where that isn't known, as of a pipe.
+pub fn size(fd: i32) -> u64 {
+    let at = libc::lseek(fd, 0, SEEK_CUR);
+    let end = libc::lseek(fd, 0, SEEK_END);
+    if at < 0 || end < 0 {
+        return 0;
+    }
+    libc::lseek(fd, at, SEEK_SET);
+    plain(end)
+}
+
+fn plain(number: i64) -> u64 {
+    if number > 0 { number as u64 } else { 0 }
 }

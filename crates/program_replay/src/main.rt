@@ -1,49 +1,52 @@
 // Makes a node from the configuration that an argument names and the calls of the record that the next one names on it, in order, and writes
 // what each answers.
 mod capture;
+mod complaint;
 mod file;
+mod help;
+mod lines;
 mod options;
+mod outputs;
+mod progress;
 mod run;
+mod show;
+mod status;
 mod summary;
+mod target;
+mod words;
+mod writer;
 
-use libc::STDERR_FILENO;
-use std::num::wrapping_add_usize;
+use options::Options;
+
+fn main() {
+    let told = status::can_be_told();
+    let options = options::read();
+    status::tell(told, replay(options));
+}
+
+// What is asked for is done; answers the status.
+fn replay(options: Options) -> u8 {
+    if options.help {
+        return help::write();
+    }
+    if 0 < options.fault {
+        options::advise(options);
+        return status::FAILED;
+    }
+    replay_files(options)
+}
 
 // Both files are read before anything is written: of the record as much as one piece holds.
-fn main() {
-    let options = options::read();
-    if !options.right {
-        io::write_all(
-            STDERR_FILENO,
-            b"replay: name two files: replay [--from LINE] [--to LINE] [--only reports] [--summary] [--pcap FILE] CONFIGURATION RECORD\n",
-        );
-        return;
-    }
+fn replay_files(options: Options) -> u8 {
     let mut text = io::large_buffer();
-    let configuration = file::read(options.at, &mut text);
+    let configuration = file::read(options.configuration, &mut text);
     if configuration.failed {
-        return;
+        return status::FAILED;
     }
-    libc::close(configuration.fd);
-    let mut first = io::large_buffer();
-    let record = file::begin(wrapping_add_usize(options.at, 1), &mut first);
+    let mut piece = io::large_buffer();
+    let record = file::begin(options.record, &mut piece);
     if record.failed {
-        return;
+        return status::FAILED;
     }
-    let mut fd = -1;
-    if 0 < options.capture {
-        fd = capture::begin(options.capture);
-        if fd < 0 {
-            return;
-        }
-    }
-    run::run(
-        text::part::between(&text, 0, configuration.count),
-        record,
-        &mut first,
-        options.view,
-        options.summary,
-        fd,
-    );
-    libc::close(record.fd);
+    run::run(options, &text, configuration.count, record, &mut piece)
 }

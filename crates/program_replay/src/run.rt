@@ -1,9 +1,19 @@
 // The calls of a record, in order, read piece by piece.
-use crate::capture;
+use crate::complaint::complain_of;
 use crate::file::File;
 use crate::file::more;
-use crate::summary;
-use libc::STDERR_FILENO;
+use crate::file::size;
+use crate::lines::Entry;
+use crate::lines::entry_of;
+use crate::options::Options;
+use crate::outputs;
+use crate::outputs::Outputs;
+use crate::progress;
+use crate::show::Asked;
+use crate::show::show;
+use crate::status;
+use crate::target;
+use crate::writer::onto;
 use libc::STDOUT_FILENO;
 use replay_refusals::put_fault;
 use replay_refusals::put_unreadable;
@@ -11,18 +21,19 @@ use replay_shift::run::Place;
 use replay_shift::run::View;
 use replay_shift::run::run_lines;
 use start::start;
+use std::num::wrapping_add_u64;
 use std::num::wrapping_add_usize;
 use text::part::between;
 
-// The node that a configuration makes, and the calls of a record on it, of which the first piece is read.
+// The node that a configuration's text makes, and the calls of a record on it, of which the first piece is read. Answers the status.
 pub fn run(
-    configuration: &[u8],
+    options: Options,
+    text: &[u8; 65536],
+    length: usize,
     record: File,
     piece: &mut [u8; 65536],
-    view: View,
-    counted: bool,
-    packets: i32,
-) {
+) -> u8 {
+    let configuration = between(text, 0, length);
     let mut plan = [0u16; 1024];
     let mut links = [0u32; 256];
     let mut marks = [0u32; 512];
@@ -39,10 +50,16 @@ pub fn run(
         configuration,
     );
     if 0 < made.fault {
-        let mut out = [0u8; 64];
-        let count = put_fault(&mut out, 0, made.line, made.fault);
-        io::write_all(STDOUT_FILENO, between(&out, 0, count));
-        return;
+        return refuse(options, made.line, made.fault);
+    }
+    let begun = opened(
+        options,
+        configuration,
+        between(piece, 0, record.count),
+        record.fd,
+    );
+    if begun.status == status::FAILED {
+        return status::FAILED;
     }
     run_pieces(
         &plan,
@@ -51,12 +68,46 @@ pub fn run(
         &mut spans,
         &mut rings,
         &mut arrivals,
+        options,
+        begun,
         record,
         piece,
-        view,
-        counted,
-        packets,
-    );
+    )
+}
+
+// Where the run writes to: standard output and the file of a capture. Of the record the first octets are given.
+fn opened(options: Options, configuration: &[u8], first: &[u8], record: i32) -> Outputs {
+    let octets = size(record);
+    let mut packets = -1;
+    let mut told = status::DONE;
+    if 0 < options.capture {
+        packets = target::open(options.capture, configuration, first, octets);
+        if packets < 0 {
+            told = status::FAILED;
+        }
+    }
+    Outputs {
+        answers: onto(STDOUT_FILENO),
+        packets: onto(packets),
+        progress: progress::begin(octets),
+        status: told,
+    }
+}
+
+// A configuration that is refused, alone in the output.
+fn refuse(options: Options, line: usize, fault: u8) -> u8 {
+    let mut out = [0u8; 64];
+    let count = put_fault(&mut out, 0, line, fault);
+    let asked = Asked {
+        calls: false,
+        words: options.words,
+    };
+    let answers = show(onto(STDOUT_FILENO), asked, b"", 0, between(&out, 0, count));
+    if answers.failed {
+        complain_of(b"standard output");
+        return status::FAILED;
+    }
+    status::REFUSED
 }
 
 // Turn after turn: the lines that end in a piece of the record, as far as a page holds what they write. With none left, what a piece cuts goes
@@ -68,30 +119,26 @@ fn run_pieces(
     spans: &mut [u16; 70],
     rings: &mut [u8; 8960],
     arrivals: &mut [u64; 1],
+    options: Options,
+    begun: Outputs,
     record: File,
     piece: &mut [u8; 65536],
-    view: View,
-    counted: bool,
-    packets: i32,
-) {
+) -> u8 {
     let mut rows = [0u64; 2048];
     let mut octets = [0u8; 52416];
     let mut message = [0u8; 1024];
     let mut sent = [0u8; 4096];
     let mut reports = [0u64; 1024];
     let mut out = [0u8; 262144];
-    let mut counts = [0u64; 17];
+    let mut counts = [0u64; 22];
+    let mut outputs = outputs::begin(begun, options);
     let mut count = record.count;
-    let mut place = Place {
-        at: 0,
-        number: 1,
-        pending: 0,
-        readable: true,
-    };
+    let mut place = beginning();
     let mut turns = u64::MAX;
     while 0 < turns {
         turns -= 1;
         let before = place;
+        let limit = limit_of(piece, count, place, options);
         place = run_lines(
             plan,
             links,
@@ -101,27 +148,25 @@ fn run_pieces(
             &mut rows,
             &mut octets,
             arrivals,
-            between(piece, 0, count),
+            between(piece, 0, limit),
             place,
-            view,
+            view_of(options),
             &mut message,
             &mut sent,
             &mut reports,
             &mut out,
         );
-        if counted {
-            summary::count(between(&out, 0, place.pending), &mut counts);
-        }
-        if 0 <= packets {
-            capture::take(
-                packets,
-                between(piece, before.at, place.at),
-                before.number,
-                between(&out, 0, place.pending),
-            );
-        }
-        place = write_out(before.number, place, &out);
-        if !place.readable {
+        outputs = outputs::take(
+            outputs,
+            options,
+            between(piece, before.at, place.at),
+            before.number,
+            between(&out, 0, place.pending),
+            place.readable,
+            &mut counts,
+        );
+        place.pending = 0;
+        if ends(options, outputs.status, place.number) {
             break;
         }
         if before.at < place.at {
@@ -129,45 +174,89 @@ fn run_pieces(
         }
         let rest = move_to_front(piece, place.at, count);
         let next = more(record.fd, piece, rest);
+        outputs = outputs::go_on(outputs, next.count);
         if next.count == 0 {
-            end(next, rest, place.number);
+            outputs = read_out(
+                outputs,
+                options,
+                between(piece, 0, rest),
+                next.failed,
+                place.number,
+                &mut counts,
+            );
             break;
         }
         count = wrapping_add_usize(rest, next.count);
         place.at = 0;
     }
-    if counted {
-        summary::write(&counts);
+    outputs::end(outputs, options, &counts)
+}
+
+fn beginning() -> Place {
+    Place {
+        at: 0,
+        number: 1,
+        pending: 0,
+        readable: true,
     }
 }
 
-// What stands on the page is written out; long records show that they go on.
-fn write_out(before: u64, place: Place, out: &[u8; 262144]) -> Place {
-    io::write_all(STDOUT_FILENO, between(out, 0, place.pending));
-    if before / 1000000 < place.number / 1000000 {
-        io::print_decimal(STDERR_FILENO, place.number / 1000000);
-        io::write_all(STDERR_FILENO, b" million lines\n");
+fn view_of(options: Options) -> View {
+    View {
+        first: options.first,
+        last: options.last,
+        only: 0 < options.only,
+        fates: options.fates,
     }
-    Place {
+}
+
+// Where the lines that are run end: behind the last that is shown, unless a summary is asked for.
+fn limit_of(piece: &[u8; 65536], count: usize, place: Place, options: Options) -> usize {
+    if options.summary || options.last == u64::MAX {
+        return count;
+    }
+    let from = Entry {
         at: place.at,
         number: place.number,
-        pending: 0,
-        readable: place.readable,
-    }
+    };
+    entry_of(
+        between(piece, 0, count),
+        from,
+        wrapping_add_u64(options.last, 1),
+    ).at
+}
+
+// Whether a run ends before a line of the record: something is refused or failed, or nothing more is shown or counted.
+fn ends(options: Options, told: u8, number: u64) -> bool {
+    told != status::DONE || (!options.summary && options.last < number)
 }
 
 // The record has no more octets: those behind its last LF are no line.
-fn end(next: File, rest: usize, number: u64) {
-    if next.failed {
-        os::fail(b"the record");
-        return;
+fn read_out(
+    outputs: Outputs,
+    options: Options,
+    rest: &[u8],
+    failed: bool,
+    number: u64,
+    counts: &mut [u64; 22],
+) -> Outputs {
+    if failed {
+        return outputs::fail(outputs, b"the record");
     }
-    if rest == 0 {
-        return;
+    if rest.len() == 0 {
+        return outputs;
     }
     let mut out = [0u8; 64];
     let count = put_unreadable(&mut out, 0, number);
-    io::write_all(STDOUT_FILENO, between(&out, 0, count));
+    outputs::take(
+        outputs,
+        options,
+        rest,
+        number,
+        between(&out, 0, count),
+        false,
+        counts,
+    )
 }
 
 // The octets of a piece from a place up to another, at its front; how many there are.

@@ -1,5 +1,10 @@
-// How many lines of each kind were shown: replies by their number, drops by their reason, pauses and resumes.
-use libc::STDOUT_FILENO;
+// How many lines of each kind were shown: replies by their number, drops by their reason, pauses, resumes, and the five fates.
+use crate::lines::number_of;
+use crate::lines::numbered;
+use crate::writer::Writer;
+use crate::writer::add;
+use crate::writer::add_decimal;
+use crate::writer::flush;
 use std::num::wrapping_add_u64;
 use text::part::between;
 use text::part::field;
@@ -8,8 +13,8 @@ use text::part::same;
 use text_decimals::decimal::Number;
 use text_decimals::decimal::decimal;
 
-// Counts the lines of a text: replies 0 to 11, then drops for reasons 1 to 3, pauses and resumes.
-pub fn count(text: &[u8], counts: &mut [u64; 17]) {
+// Counts the lines of a text: replies 0 to 11, then drops for reasons 1 to 3, then the others in the order of their list.
+pub fn count(text: &[u8], counts: &mut [u64; 22]) {
     let mut at = 0;
     loop {
         let part = line(text, at);
@@ -22,20 +27,26 @@ pub fn count(text: &[u8], counts: &mut [u64; 17]) {
 }
 
 // One line: behind its number stands what it tells.
-fn count_line(text: &[u8], at: usize, to: usize, counts: &mut [u64; 17]) {
+fn count_line(text: &[u8], at: usize, to: usize, counts: &mut [u64; 22]) {
     let number = field(text, at, to);
     let told = field(text, number.next, to);
     let first = field(text, told.next, to);
     let word = between(text, number.next, told.end);
     if same(word, b"reply") {
         count_at(value(between(text, told.next, first.end)), counts);
-    } else if same(word, b"drop") {
+        return;
+    }
+    if same(word, b"drop") {
         let reason = value(between(text, first.next, field(text, first.next, to).end));
         count_at(wrapping_add_u64(reason, 11), counts);
-    } else if same(word, b"pause") {
-        count_at(15, counts);
-    } else if same(word, b"resume") {
-        count_at(16, counts);
+        return;
+    }
+    let other = number_of(
+        b"pause\nresume\nqueued\nsent\nacknowledged\nretired\nmoved\n",
+        word,
+    );
+    if 0 < other {
+        count_at(wrapping_add_u64(other, 14), counts);
     }
 }
 
@@ -47,34 +58,42 @@ fn value(text: &[u8]) -> u64 {
     number
 }
 
-fn count_at(place: u64, counts: &mut [u64; 17]) {
-    if place < 17 {
+fn count_at(place: u64, counts: &mut [u64; 22]) {
+    if place < 22 {
         counts[place as usize] = wrapping_add_u64(counts[place as usize], 1);
     }
 }
 
-// A line for each of the counts.
-pub fn write(counts: &[u64; 17]) {
-    let mut place = 0;
-    while place < 17 {
-        write_line(place, counts[place]);
-        place += 1;
-    }
+// A line for each of the counts, of the fates only where they are shown.
+pub fn write(output: Writer, fates: bool, counts: &[u64; 22]) -> Writer {
+    let mut area = [0u8; 65536];
+    let written = add_totals(output, &mut area, fates, counts);
+    flush(written, &area)
 }
 
-fn write_line(place: usize, count: u64) {
-    if place < 12 {
-        io::write_all(STDOUT_FILENO, b"total\treply\t");
-        io::print_decimal(STDOUT_FILENO, place as u64);
-    } else if place < 15 {
-        io::write_all(STDOUT_FILENO, b"total\tdrop\t");
-        io::print_decimal(STDOUT_FILENO, (place - 11) as u64);
-    } else if place < 16 {
-        io::write_all(STDOUT_FILENO, b"total\tpause");
-    } else {
-        io::write_all(STDOUT_FILENO, b"total\tresume");
+fn add_totals(output: Writer, area: &mut [u8; 65536], fates: bool, counts: &[u64; 22]) -> Writer {
+    let mut next = output;
+    let mut place = 0;
+    while place < 22 {
+        if !fates && 17 <= place {
+            break;
+        }
+        next = add_total(next, area, place, counts[place]);
+        place += 1;
     }
-    io::write_all(STDOUT_FILENO, b"\t");
-    io::print_decimal(STDOUT_FILENO, count);
-    io::write_all(STDOUT_FILENO, b"\n");
+    next
+}
+
+// A line of the summary: its kind, and how many there were.
+fn add_total(output: Writer, area: &mut [u8; 65536], place: usize, count: u64) -> Writer {
+    let kind = numbered(
+        b"reply\t0\nreply\t1\nreply\t2\nreply\t3\nreply\t4\nreply\t5\nreply\t6\nreply\t7\nreply\t8\nreply\t9\nreply\t10\nreply\t11\n\
+drop\t1\ndrop\t2\ndrop\t3\npause\nresume\nqueued\nsent\nacknowledged\nretired\nmoved\n",
+        wrapping_add_u64(place as u64, 1),
+    );
+    let output = add(output, area, b"total\t");
+    let output = add(output, area, kind);
+    let output = add(output, area, b"\t");
+    let output = add_decimal(output, area, count);
+    add(output, area, b"\n")
 }

@@ -1,15 +1,18 @@
 -- `program_replay::capture::take` ends: its turns are counted down. Assumes nothing.
 use borrow.Author.Needs.{needs}
 use mathlib.Core.Path.{_≡_}
-use native.Mathlib.Omega.{arith}
+use lib.ListN.{take}
 use Rattle.program_replay.proofs.capture.take.Statement.{statement}
 use Rattle.program_replay.proofs.capture.take.Tie as tie
 
 abbrev Inv-loop : tie.InvT-loop
-Inv-loop fd lines first answers entry₀ at₀ turns₀ entry at turns = turns ≡ turns
+Inv-loop type-of-link lines first page area₀ captured₀ at₀ turns₀ area captured at turns = turns ≡ turns
 
 abbrev μ-loop : tie.MeasureT-loop
-μ-loop fd lines first answers entry₀ at₀ turns₀ entry at turns = turns
+μ-loop type-of-link lines first page area₀ captured₀ at₀ turns₀ area captured at turns = turns
+
+returns : tie.Need-returns Inv-loop μ-loop
+returns c = search needs
 
 loop-holds : tie.Need-loop-holds Inv-loop μ-loop
 loop-holds c = search needs
@@ -27,17 +30,30 @@ take-answer-requires : tie.Need-take-answer-requires Inv-loop μ-loop
 take-answer-requires c κs = search needs
 
 loop-less : tie.Need-loop-less Inv-loop μ-loop
-loop-less c = omega (arith, c .before .before .before .before .before .loop-test .taken)
+loop-less c = search needs
 
 loop-again : tie.Need-loop-again Inv-loop μ-loop
 loop-again c = search needs
 
-returns : tie.Need-returns Inv-loop μ-loop
-returns c = search needs
+flush-requires : tie.Need-flush-requires Inv-loop μ-loop
+flush-requires c κs = search needs
 
 returns-2 : tie.Need-returns-2 Inv-loop μ-loop
 returns-2 c = search needs
 
 pub take-spec : {M : Type 1} → statement M
 take-spec =
-    tie.close (tie.spec Inv-loop μ-loop loop-holds sub-turns line-requires between-requires take-answer-requires loop-less loop-again returns returns-2)
+    tie.close
+    (tie.spec
+    Inv-loop
+    μ-loop
+    returns
+    loop-holds
+    sub-turns
+    line-requires
+    between-requires
+    take-answer-requires
+    loop-less
+    loop-again
+    flush-requires
+    returns-2)

@@ -1,7 +1,6 @@
 -- `program_replay::options::read` ends: its turns are counted down. Assumes nothing.
 use borrow.Author.Needs.{needs}
 use mathlib.Core.Path.{_≡_}
-use native.Mathlib.Omega.{arith}
 use Rattle.program_replay.proofs.options.read.Statement.{statement}
 use Rattle.program_replay.proofs.options.read.Tie as tie
 
@@ -14,29 +13,35 @@ abbrev μ-loop : tie.MeasureT-loop
 arg-count-requires : tie.Need-arg-count-requires Inv-loop μ-loop
 arg-count-requires c κs = search needs
 
+nothing-requires : tie.Need-nothing-requires Inv-loop μ-loop
+nothing-requires c κs = search needs
+
 loop-holds : tie.Need-loop-holds Inv-loop μ-loop
 loop-holds c = search needs
 
 sub-turns : tie.Need-sub-turns Inv-loop μ-loop
 sub-turns c = search needs
 
-wrapping-add-usize-requires : tie.Need-wrapping-add-usize-requires Inv-loop μ-loop
-wrapping-add-usize-requires c κs = search needs
+ends-requires : tie.Need-ends-requires Inv-loop μ-loop
+ends-requires c κs = search needs
 
-with-option-requires : tie.Need-with-option-requires Inv-loop μ-loop
-with-option-requires c κs = search needs
+with-word-requires : tie.Need-with-word-requires Inv-loop μ-loop
+with-word-requires c κs = search needs
 
 loop-less : tie.Need-loop-less Inv-loop μ-loop
-loop-less c = omega (arith, c .before .before .before .before .loop-test .taken)
+loop-less c = search needs
 
 loop-again : tie.Need-loop-again Inv-loop μ-loop
 loop-again c = search needs
 
-complete-requires : tie.Need-complete-requires Inv-loop μ-loop
-complete-requires c κs = search needs
+ends-requires-2 : tie.Need-ends-requires-2 Inv-loop μ-loop
+ends-requires-2 c κs = search needs
 
 returns : tie.Need-returns Inv-loop μ-loop
 returns c = search needs
+
+complete-requires : tie.Need-complete-requires Inv-loop μ-loop
+complete-requires c κs = search needs
 
 returns-2 : tie.Need-returns-2 Inv-loop μ-loop
 returns-2 c = search needs
@@ -48,12 +53,14 @@ read-spec =
     Inv-loop
     μ-loop
     arg-count-requires
+    nothing-requires
     loop-holds
     sub-turns
-    wrapping-add-usize-requires
-    with-option-requires
+    ends-requires
+    with-word-requires
     loop-less
     loop-again
-    complete-requires
+    ends-requires-2
     returns
+    complete-requires
     returns-2)

@@ -1,9 +1,8 @@
--- `program_replay::capture::entry_of` ends: its turns are counted down. Assumes nothing.
+-- `program_replay::lines::entry_of` ends: its turns are counted down. Assumes nothing.
 use borrow.Author.Needs.{needs}
 use mathlib.Core.Path.{_≡_}
-use native.Mathlib.Omega.{arith}
-use Rattle.program_replay.proofs.capture.entry_of.Statement.{statement}
-use Rattle.program_replay.proofs.capture.entry_of.Tie as tie
+use Rattle.program_replay.proofs.lines.entry_of.Statement.{statement}
+use Rattle.program_replay.proofs.lines.entry_of.Tie as tie
 
 abbrev Inv-loop : tie.InvT-loop
 Inv-loop lines number entry₀ turns₀ entry turns = turns ≡ turns
@@ -24,7 +23,7 @@ wrapping-add-u64-requires : tie.Need-wrapping-add-u64-requires Inv-loop μ-loop
 wrapping-add-u64-requires c κs = search needs
 
 loop-less : tie.Need-loop-less Inv-loop μ-loop
-loop-less c = omega (arith, c .before .before .before .before .loop-test .taken)
+loop-less c = search needs
 
 loop-again : tie.Need-loop-again Inv-loop μ-loop
 loop-again c = search needs
@@ -37,4 +36,15 @@ returns-2 c = search needs
 
 pub entry-of-spec : {M : Type 1} → statement M
 entry-of-spec =
-    tie.close (tie.spec Inv-loop μ-loop loop-holds sub-turns line-requires wrapping-add-u64-requires loop-less loop-again returns returns-2)
+    tie.close
+    (tie.spec
+    Inv-loop
+    μ-loop
+    loop-holds
+    sub-turns
+    line-requires
+    wrapping-add-u64-requires
+    loop-less
+    loop-again
+    returns
+    returns-2)
