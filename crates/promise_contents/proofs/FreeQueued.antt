@@ -94,7 +94,9 @@ module _ (rows octets : List ℕ) (queues : Queues) (sound : SoundIn rows octets
       let row = user-read rows head (nextOf arrivals) point sls size (sound .rowsLong) (fits-there head size user small) in
       simp e
       (alike slot head
-      (λ same. simp same (inr (user, least, small, ap (λ (s : Slot). s .field) row, ap (λ (s : Slot). s .arrival) row)))
+      (λ same.
+      simp same
+      (inr (user, least, small, ap (λ (s : Slot). s .field) row, ap (λ (s : Slot). s .arrival) row, ap (λ (s : Slot). s .heading) row)))
       (λ other.
       inl (
         row-kept rows (Write.user head (nextOf arrivals) point sls message) slot other,

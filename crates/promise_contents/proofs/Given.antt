@@ -130,7 +130,7 @@ module _ (a : Areas) (octets : List ℕ) (regular : RegularIn a octets) (kinds :
       simp (eq-eqb (userReply (a .spans) (a .arrivals)) 0 done) (
         getD-set-same (a .arrivals) 0 (nextOf (a .arrivals) + 1) 0 (omega (arith, one)),
         λ (given : true ≡ true). (
-          (user, small .0, small .1, ap (λ (s : Slot). s .field) row, ap (λ (s : Slot). s .arrival) row),
+          (user, small .0, small .1, ap (λ (s : Slot). s .field) row, ap (λ (s : Slot). s .arrival) row, ap (λ (s : Slot). s .heading) row),
           record {
             ring = ringOf plan a label;
             within = ring-within plan a label reached;

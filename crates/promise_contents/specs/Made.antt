@@ -80,12 +80,12 @@ newOf plan (T6 x) message a = Nothing
 newOf plan (T8 x) message a = Nothing
 newOf plan (T10 x set) message a = Made (testOf plan x set)
 
--- a slot holds what is new, with an arrival number: a user message of 5 to 273 octets (R26) in a user slot, or a management message in a
--- management slot, as its heading octet and its field
+-- a slot holds what is new, with an arrival number: a user message of 5 to 273 octets (R26) in a user slot, without a heading octet, or a management
+-- message in a management slot, as its heading octet and its field
 unfoldable pub Written : New → ℕ → ℕ → Slot → Type 0
 Written Nothing number slot row = ⊥
 Written (User size) number slot row =
-    (slot < 192) × (5 ≤ size) × (size ≤ 273) × (row .field ≡ size) × (row .arrival ≡ number)
+    (slot < 192) × (5 ≤ size) × (size ≤ 273) × (row .field ≡ size) × (row .arrival ≡ number) × (row .heading ≡ 0)
 Written (Made draft) number slot row =
     (192 ≤ slot) × (row ≡ managementRow number (headingOf (draft .message)) (draft .point) (draft .slc) (fieldOf (draft .message)))
 

@@ -1,6 +1,6 @@
 -- The fates of every call are true: over any run of calls from any configuration, and for any call then, every line says what is so and no message is left
 -- out. Assumes nothing.
-use mathlib.Core.Path.{_≡_, refl, sym, ap, subst, _∙_}
+use mathlib.Core.Path.{_≡_, ap}
 use mathlib.Core.List.{List}
 use Prim.Native.Nat.{ℕ, zero, suc, _+_, _≤_}
 use native.Mathlib.Nat.{add-zero}
@@ -9,7 +9,7 @@ use native.Mathlib.Omega.{arith}
 use Rattle.plan_configuration.specs.Configure.{configured}
 use Rattle.plan_configuration.proofs.Made.{configured-sound}
 use Rattle.queue_rings.specs.Ring.{countOf}
-use Rattle.queue_store.specs.Sound.{sum, Sound}
+use Rattle.queue_store.specs.Sound.{sum}
 use Rattle.queue_store.proofs.Sums.{sum-two}
 use Rattle.node.specs.Memory.{Memory}
 use Rattle.node.specs.Call.{callOf}
@@ -33,7 +33,7 @@ within-counts h queue (suc queues) =
     let end = ap (sum (countOf (h .spans))) index in
     omega (arith, later, same, end)
 
-at-most : (m : Memory) → RegularAt m → together (heldIn m) 0 33 ≤ 256
+pub at-most : (m : Memory) → RegularAt m → together (heldIn m) 0 33 ≤ 256
 unfolding sum
 at-most m regular =
     omega (arith, within-counts (heldIn m) 0 33, sum-two (countOf (m .areas .spans)) 33, regular .store .all)

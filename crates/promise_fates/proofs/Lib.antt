@@ -1,3 +1,17 @@
 pub mod Standing
+pub mod Counting
+pub mod Walked
+pub mod Whither
+pub mod Settled
+pub mod Parts
+pub mod GoneLines
 pub mod Named
 pub mod FatesTrue
+pub mod GoneAre
+pub mod SentAre
+pub mod QueuedAre
+pub mod MovedLines
+pub mod Keeping
+pub mod MovedAre
+pub mod FatesAre
+pub mod WholeRun

@@ -7,7 +7,8 @@ use native.Mathlib.Numerals.{add-one}
 use native.Mathlib.Omega.{arith}
 use lib.Dec.{eqb, ltb}
 use borrow.Author.Tests.{lt-ltb}
-use borrow.Table.Steps.{cases}
+use Rattle.area_slots.specs.declared.Slot.{Slot}
+use Rattle.area_slots.specs.SlotRows.{slotAt}
 use Rattle.queue_rings.specs.Run.{run}
 use Rattle.queue_rings.specs.Ring.{countOf, entry, atOf, queue}
 use Rattle.queue_store.specs.Sound.{bit, tally, is}
@@ -15,13 +16,14 @@ use Rattle.queue_heads.specs.Head.{both}
 use Rattle.fate_places.specs.Places.{Held, seek, places, messageAt, stands}
 use Rattle.promise_ledger.specs.Held.{arrivalOf, numbers}
 
-module _ (h : Held) (ring number : ℕ) where
+module _ (h : Held) (ring : ℕ) where
   -- the message at a place that the queue has
-  message-is : (place : ℕ) → place < countOf (h .spans) ring
-      → messageAt h ring place .arrival ≡ arrivalOf (h .rows) (entry (h .spans) (h .rings) ring place)
+  pub message-is : (place : ℕ) → place < countOf (h .spans) ring
+      → messageAt h ring place ≡ slotAt (h .rows) (entry (h .spans) (h .rings) ring place)
   unfolding messageAt atOf
   message-is place below = simp (lt-ltb place (countOf (h .spans) ring) below)
 
+module _ (h : Held) (ring number : ℕ) where
   abbrev test : ℕ → Bool
   test place = eqb (messageAt h ring place .arrival) number
 
@@ -44,7 +46,8 @@ module _ (h : Held) (ring number : ℕ) where
   found-is place (suc more) short =
       let later = found-is (place + 1) more (omega arith) ∙ ap (λ (k : ℕ). ltb 0 (tally (is number) (from k more))) (add-one place) in
       step (test place) (seek test (λ (k : ℕ). true) false (place + 1) more) (tally (is number) (from (suc place) more)) later
-      ∙ ap (λ (a : ℕ). ltb 0 (bit (eqb a number) + tally (is number) (from (suc place) more))) (message-is place (omega arith))
+      ∙ ap (λ (known : Slot). ltb 0 (bit (eqb (known .arrival) number) + tally (is number) (from (suc place) more)))
+      (message-is h ring place (omega arith))
 
   -- a queue of at most 256
   pub standing : countOf (h .spans) ring ≤ 256
