@@ -1,10 +1,4 @@
 // A capture of what was received and sent, which Wireshark opens: the time of a packet is its line in the record.
-use crate::lines::Entry;
-use crate::lines::entry_of;
-use crate::lines::past_two;
-use crate::writer::Writer;
-use crate::writer::add;
-use crate::writer::flush;
 use std::num::wrapping_add_usize;
 use text::part::between;
 use text::part::field;
@@ -14,6 +8,13 @@ use text_decimals::decimal::Number;
 use text_decimals::decimal::decimal;
 use text_hex::hex::Octets;
 use text_hex::hex::hex;
+use tool_files::writer::Writer;
+use tool_files::writer::add;
+use tool_files::writer::flush;
+use tool_words::lines::Entry;
+use tool_words::lines::entry_of;
+use tool_words::lines::past_two;
+use tool_words::lines::value;
 
 // The link type of MTP2 with a header before it; any other is MTP3 alone.
 const WITH_HEADER: u64 = 139;
@@ -111,7 +112,7 @@ fn take_call(
 ) -> Writer {
     let kind = field(call, 0, call.len());
     let link = field(call, kind.next, call.len());
-    let of_link = value(between(call, kind.next, link.end));
+    let of_link = value(between(call, kind.next, link.end), 0);
     let word = between(call, 0, kind.end);
     let at = past_two(reply, 0);
     let told = field(reply, at, reply.len());
@@ -167,7 +168,7 @@ fn add_packet(
     let header = Header {
         sent,
         link,
-        fsn: value(between(message, 0, fsn.end)),
+        fsn: value(between(message, 0, fsn.end), 0),
         length: count,
     };
     let before = if type_of_link == WITH_HEADER { 7 } else { 0 };
@@ -214,14 +215,6 @@ fn add_header(packets: Writer, area: &mut [u8; 65536], header: Header, octets: u
             octets,
         ),
     )
-}
-
-// What a field says; 0 where it says no number.
-fn value(text: &[u8]) -> u64 {
-    let Number::Value(number) = decimal(text, u64::MAX) else {
-        return 0;
-    };
-    number
 }
 
 // A word of 32 bits, its lowest octet first.

@@ -1,13 +1,10 @@
 // What `--help` says.
-use crate::complaint::complain_of;
-use crate::status::DONE;
-use crate::status::FAILED;
-use libc::STDOUT_FILENO;
+use tool_files::help;
 
 // Answers the status.
 pub fn write() -> u8 {
-    let written = io::write_all(
-        STDOUT_FILENO,
+    help::write(
+        b"replay",
         b"replay [OPTION..] CONFIGURATION RECORD
 
 Makes a node from the configuration and the calls of the record on it, in order, and writes what each answers.
@@ -27,10 +24,5 @@ Options stand anywhere among the files; behind -- all words are files.
 Exit status: 0 every line was run; 1 the configuration is refused or a line can't be read; 2 the arguments aren't right, or a file can't be
 read or written. docs/FORMATS.md says what is read and written.
 ",
-    );
-    if !written {
-        complain_of(b"standard output");
-        return FAILED;
-    }
-    DONE
+    )
 }

@@ -1,22 +1,17 @@
 // Makes a node from the configuration that an argument names and the calls of the record that the next one names on it, in order, and writes
 // what each answers.
 mod capture;
-mod complaint;
-mod file;
 mod help;
-mod lines;
 mod options;
 mod outputs;
-mod progress;
 mod run;
 mod show;
-mod status;
 mod summary;
-mod target;
 mod words;
-mod writer;
 
 use options::Options;
+use tool_files::file;
+use tool_files::status;
 
 fn main() {
     let told = status::can_be_told();
@@ -29,7 +24,7 @@ fn replay(options: Options) -> u8 {
     if options.help {
         return help::write();
     }
-    if 0 < options.fault {
+    if 0 < options.arguments.fault {
         options::advise(options);
         return status::FAILED;
     }
@@ -39,12 +34,12 @@ fn replay(options: Options) -> u8 {
 // Both files are read before anything is written: of the record as much as one piece holds.
 fn replay_files(options: Options) -> u8 {
     let mut text = io::large_buffer();
-    let configuration = file::read(options.configuration, &mut text);
+    let configuration = file::read(b"replay", options.arguments.configuration, &mut text);
     if configuration.failed {
         return status::FAILED;
     }
     let mut piece = io::large_buffer();
-    let record = file::begin(options.record, &mut piece);
+    let record = file::begin(b"replay", options.arguments.record, &mut piece);
     if record.failed {
         return status::FAILED;
     }

@@ -1,12 +1,18 @@
 // What the arguments ask for.
-use crate::complaint::complain;
-use crate::lines::number_of;
-use crate::lines::numbered;
-use std::num::wrapping_add_usize;
 use text::part::between;
 use text::part::same;
 use text_decimals::decimal::Number;
 use text_decimals::decimal::decimal;
+use tool_files::arguments;
+use tool_files::arguments::Arguments;
+use tool_files::arguments::NO_LINE;
+use tool_files::arguments::UNKNOWN;
+use tool_files::arguments::VALUE_MISSING;
+use tool_files::arguments::dashed;
+use tool_files::arguments::past;
+use tool_files::arguments::unread;
+use tool_files::arguments::with_file;
+use tool_words::lines::number_of;
 
 // The places of words among the arguments are 0 where the word isn't there.
 pub struct Options {
@@ -20,35 +26,16 @@ pub struct Options {
     pub words: bool,
     pub summary: bool,
     pub help: bool,
-    // The places of the files, and the capture's link type.
+    // The place of the capture's file, and its link type.
     pub capture: usize,
     pub type_of_link: u64,
-    pub configuration: usize,
-    pub record: usize,
-    // What is wrong, 0 for nothing, and the place of the word that is.
-    pub fault: u64,
-    pub word: usize,
-    // The place of the next word, and whether it is a file whatever it begins with.
-    next: usize,
-    ended: bool,
+    pub arguments: Arguments,
 }
 
 // What can be wrong, in the order of the advice in `advise`.
-const UNKNOWN: u64 = 1;
+const NOT_REPORTS: u64 = 7;
 
-const VALUE_MISSING: u64 = 2;
-
-const NO_NUMBER: u64 = 3;
-
-const NOT_REPORTS: u64 = 4;
-
-const NO_LINK_TYPE: u64 = 5;
-
-const THIRD_FILE: u64 = 6;
-
-const RECORD_MISSING: u64 = 7;
-
-const FILES_MISSING: u64 = 8;
+const NO_LINK_TYPE: u64 = 8;
 
 const NOT_WITH_ONLY: u64 = 9;
 
@@ -59,7 +46,7 @@ pub fn read() -> Options {
     let mut turns = count;
     while 0 < turns {
         turns -= 1;
-        if count <= options.next || ends(options) {
+        if count <= options.arguments.next || ends(options) {
             break;
         }
         options = with_word(options);
@@ -82,50 +69,44 @@ fn nothing() -> Options {
         help: false,
         capture: 0,
         type_of_link: 139,
-        configuration: 0,
-        record: 0,
-        fault: 0,
-        word: 0,
-        next: 1,
-        ended: false,
+        arguments: unread(),
     }
 }
 
 fn ends(options: Options) -> bool {
-    options.help || 0 < options.fault
+    options.help || 0 < options.arguments.fault
 }
 
 // Whether two files are named, and nothing is asked for that reports alone don't show.
 fn complete(options: Options) -> Options {
-    if options.configuration == 0 {
-        return wrong(options, FILES_MISSING, 0);
-    }
-    if options.record == 0 {
-        return wrong(options, RECORD_MISSING, options.configuration);
+    let next = with(options, arguments::complete(options.arguments));
+    if ends(next) {
+        return next;
     }
     if 0 < options.only && (options.fates || (options.calls || 0 < options.capture)) {
         return wrong(options, NOT_WITH_ONLY, options.only);
     }
-    options
+    next
+}
+
+fn with(options: Options, arguments: Arguments) -> Options {
+    let mut next = options;
+    next.arguments = arguments;
+    next
 }
 
 fn wrong(options: Options, fault: u64, word: usize) -> Options {
-    let mut next = options;
-    next.fault = fault;
-    next.word = word;
-    next
+    with(options, arguments::wrong(options.arguments, fault, word))
 }
 
 // The next word: a file, an option, or an option and its value.
 fn with_word(options: Options) -> Options {
     let mut area = io::buffer();
-    let at = options.next;
+    let at = options.arguments.next;
     let length = os::arg(at, &mut area);
     let word = between(&area, 0, length);
-    let mut next = options;
-    next.next = wrapping_add_usize(at, 1);
-    if options.ended || !dashed(word) {
-        return with_file(next, at);
+    if options.arguments.ended || !dashed(word) {
+        return with(options, with_file(options.arguments));
     }
     let option = number_of(
         b"--fates\n--calls\n--words\n--summary\n--help\n--\n--from\n--to\n--only\n--pcap\n--link-type\n",
@@ -135,56 +116,37 @@ fn with_word(options: Options) -> Options {
         return wrong(options, UNKNOWN, at);
     }
     if 6 < option {
-        return with_value(options, option, at);
+        return with_value(options, option);
     }
-    with_flag(next, option)
-}
-
-// Whether a word begins with a dash and goes on behind it.
-fn dashed(word: &[u8]) -> bool {
-    if word.len() < 2 {
-        return false;
-    }
-    word[0] == b'-'
-}
-
-fn with_file(options: Options, at: usize) -> Options {
-    let mut next = options;
-    if options.configuration == 0 {
-        next.configuration = at;
-        return next;
-    }
-    if options.record == 0 {
-        next.record = at;
-        return next;
-    }
-    wrong(options, THIRD_FILE, at)
+    with_flag(options, option)
 }
 
 fn with_flag(options: Options, option: u64) -> Options {
     let mut next = options;
+    let mut arguments = past(options.arguments, 1);
     match option {
         1 => next.fates = true,
         2 => next.calls = true,
         3 => next.words = true,
         4 => next.summary = true,
         5 => next.help = true,
-        _ => next.ended = true,
+        _ => arguments.ended = true,
     }
-    next
+    with(next, arguments)
 }
 
-// An option that stands at a place, with the value behind it.
-fn with_value(options: Options, option: u64, at: usize) -> Options {
+// The next word is an option with the value behind it.
+fn with_value(options: Options, option: u64) -> Options {
     let mut area = io::buffer();
-    let place = wrapping_add_usize(at, 1);
+    let at = options.arguments.next;
+    let behind = past(options.arguments, 1);
+    let place = behind.next;
     let length = os::arg(place, &mut area);
     let value = between(&area, 0, length);
     if length == 0 || dashed(value) {
         return wrong(options, VALUE_MISSING, at);
     }
-    let mut next = options;
-    next.next = wrapping_add_usize(at, 2);
+    let mut next = with(options, past(behind, 1));
     if option == 9 {
         next.only = at;
         return unless(next, same(value, b"reports"), NOT_REPORTS, place);
@@ -215,7 +177,7 @@ fn with_number(options: Options, option: u64, value: &[u8], place: usize) -> Opt
 }
 
 fn no_number(option: u64) -> u64 {
-    if option < 9 { NO_NUMBER } else { NO_LINK_TYPE }
+    if option < 9 { NO_LINE } else { NO_LINK_TYPE }
 }
 
 fn unless(options: Options, right: bool, fault: u64, place: usize) -> Options {
@@ -227,23 +189,11 @@ fn unless(options: Options, right: bool, fault: u64, place: usize) -> Options {
 
 // Says what is wrong, and what to do.
 pub fn advise(options: Options) {
-    let advice = numbered(
-        b": there is no such option; replay --help names all\n\
-: its value is missing; replay --help says which\n\
-: not the number of a line; write digits alone\n\
-: not what can be shown alone; write --only reports\n\
+    arguments::advise(
+        b"replay",
+        options.arguments,
+        b": not what can be shown alone; write --only reports\n\
 : not a link type; write 139 or 141\n\
-: a third file; name a configuration and a record\n\
-: no record behind the configuration; name both\n\
-no files are named; name a configuration and a record, or ask replay --help\n\
 : not with --fates, --calls or --pcap; leave out one\n",
-        options.fault,
     );
-    if options.word == 0 {
-        complain(b"", advice);
-        return;
-    }
-    let mut area = io::buffer();
-    let length = os::arg(options.word, &mut area);
-    complain(&area[..length], advice);
 }

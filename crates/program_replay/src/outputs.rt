@@ -1,14 +1,15 @@
 // What is written while a record is run: the answers, the capture, and how far the run is.
 use crate::capture;
-use crate::complaint::complain_of;
 use crate::options::Options;
-use crate::progress;
-use crate::progress::Progress;
 use crate::show::Asked;
 use crate::show::show;
-use crate::status;
 use crate::summary;
-use crate::writer::Writer;
+use tool_files::complaint::complain_of;
+use tool_files::progress;
+use tool_files::progress::Progress;
+use tool_files::status;
+use tool_files::writer::Writer;
+use tool_files::writer::closed;
 
 pub struct Outputs {
     pub answers: Writer,
@@ -81,7 +82,7 @@ fn told(outputs: Outputs) -> Outputs {
 // Says what failed just now, and ends the run.
 pub fn fail(outputs: Outputs, what: &[u8]) -> Outputs {
     progress::clear(outputs.progress);
-    complain_of(what);
+    complain_of(b"replay", what);
     let mut next = outputs;
     next.status = status::FAILED;
     next
@@ -111,19 +112,9 @@ pub fn end(outputs: Outputs, options: Options, counts: &[u64; 22]) -> u8 {
     ended.status
 }
 
-// A file is closed: what the system has put off until then may fail too.
-fn closed(writer: Writer) -> Writer {
-    let closes = libc::close(writer.fd);
-    Writer {
-        fd: writer.fd,
-        held: 0,
-        failed: writer.failed || closes < 0,
-    }
-}
-
 // Octets more of the record were read.
 pub fn go_on(outputs: Outputs, octets: usize) -> Outputs {
-    let progress = progress::on(outputs.progress, octets);
+    let progress = progress::on(outputs.progress, b"replay", octets);
     let answers = outputs.answers;
     let packets = outputs.packets;
     Outputs {

@@ -1,19 +1,9 @@
 // The calls of a record, in order, read piece by piece.
-use crate::complaint::complain_of;
-use crate::file::File;
-use crate::file::more;
-use crate::file::size;
-use crate::lines::Entry;
-use crate::lines::entry_of;
 use crate::options::Options;
 use crate::outputs;
 use crate::outputs::Outputs;
-use crate::progress;
 use crate::show::Asked;
 use crate::show::show;
-use crate::status;
-use crate::target;
-use crate::writer::onto;
 use libc::STDOUT_FILENO;
 use replay_refusals::put_fault;
 use replay_refusals::put_unreadable;
@@ -24,6 +14,17 @@ use start::start;
 use std::num::wrapping_add_u64;
 use std::num::wrapping_add_usize;
 use text::part::between;
+use tool_files::complaint::complain_of;
+use tool_files::file::File;
+use tool_files::file::more;
+use tool_files::file::move_to_front;
+use tool_files::file::size;
+use tool_files::progress;
+use tool_files::status;
+use tool_files::target;
+use tool_files::writer::onto;
+use tool_words::lines::Entry;
+use tool_words::lines::entry_of;
 
 // The node that a configuration's text makes, and the calls of a record on it, of which the first piece is read. Answers the status.
 pub fn run(
@@ -81,7 +82,14 @@ fn opened(options: Options, configuration: &[u8], first: &[u8], record: i32) -> 
     let mut packets = -1;
     let mut told = status::DONE;
     if 0 < options.capture {
-        packets = target::open(options.capture, configuration, first, octets);
+        packets = target::open(
+            b"replay",
+            options.capture,
+            true,
+            configuration,
+            first,
+            octets,
+        );
         if packets < 0 {
             told = status::FAILED;
         }
@@ -104,7 +112,7 @@ fn refuse(options: Options, line: usize, fault: u8) -> u8 {
     };
     let answers = show(onto(STDOUT_FILENO), asked, b"", 0, between(&out, 0, count));
     if answers.failed {
-        complain_of(b"standard output");
+        complain_of(b"replay", b"standard output");
         return status::FAILED;
     }
     status::REFUSED
@@ -257,19 +265,4 @@ fn read_out(
         false,
         counts,
     )
-}
-
-// The octets of a piece from a place up to another, at its front; how many there are.
-fn move_to_front(piece: &mut [u8; 65536], from: usize, to: usize) -> usize {
-    let mut count = 0;
-    let mut at = from;
-    while at < to {
-        if 65536 <= at {
-            break;
-        }
-        piece[count] = piece[at];
-        count += 1;
-        at += 1;
-    }
-    count
 }

@@ -1,17 +1,17 @@
 // What is shown of the answers: as they stand, or with the calls and the words that are asked for.
-use crate::lines::Entry;
-use crate::lines::entry_of;
 use crate::words::add_words;
-use crate::writer::Writer;
-use crate::writer::add;
-use crate::writer::flush;
-use crate::writer::write;
 use text::part::between;
 use text::part::field;
 use text::part::line;
 use text::part::same;
 use text_decimals::decimal::Number;
 use text_decimals::decimal::decimal;
+use tool_files::writer::Writer;
+use tool_files::writer::add;
+use tool_files::writer::flush;
+use tool_files::writer::write;
+use tool_words::lines::Entry;
+use tool_words::lines::entry_of;
 
 // What is asked for: the call before each answer, and words behind what is a number.
 pub struct Asked {

@@ -1,17 +1,16 @@
 // How many lines of each kind were shown: replies by their number, drops by their reason, pauses, resumes, and the five fates.
-use crate::lines::number_of;
-use crate::lines::numbered;
-use crate::writer::Writer;
-use crate::writer::add;
-use crate::writer::add_decimal;
-use crate::writer::flush;
 use std::num::wrapping_add_u64;
 use text::part::between;
 use text::part::field;
 use text::part::line;
 use text::part::same;
-use text_decimals::decimal::Number;
-use text_decimals::decimal::decimal;
+use tool_files::writer::Writer;
+use tool_files::writer::add;
+use tool_files::writer::add_decimal;
+use tool_files::writer::flush;
+use tool_words::lines::number_of;
+use tool_words::lines::numbered;
+use tool_words::lines::value;
 
 // Counts the lines of a text: replies 0 to 11, then drops for reasons 1 to 3, then the others in the order of their list.
 pub fn count(text: &[u8], counts: &mut [u64; 22]) {
@@ -33,11 +32,12 @@ fn count_line(text: &[u8], at: usize, to: usize, counts: &mut [u64; 22]) {
     let first = field(text, told.next, to);
     let word = between(text, number.next, told.end);
     if same(word, b"reply") {
-        count_at(value(between(text, told.next, first.end)), counts);
+        count_at(value(between(text, told.next, first.end), 1000), counts);
         return;
     }
     if same(word, b"drop") {
-        let reason = value(between(text, first.next, field(text, first.next, to).end));
+        let field_of_reason = field(text, first.next, to);
+        let reason = value(between(text, first.next, field_of_reason.end), 1000);
         count_at(wrapping_add_u64(reason, 11), counts);
         return;
     }
@@ -48,14 +48,6 @@ fn count_line(text: &[u8], at: usize, to: usize, counts: &mut [u64; 22]) {
     if 0 < other {
         count_at(wrapping_add_u64(other, 14), counts);
     }
-}
-
-// What a field says; 1,000 where it says no number.
-fn value(text: &[u8]) -> u64 {
-    let Number::Value(number) = decimal(text, 1000) else {
-        return 1000;
-    };
-    number
 }
 
 fn count_at(place: u64, counts: &mut [u64; 22]) {
