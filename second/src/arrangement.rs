@@ -53,7 +53,9 @@ impl Arrangement {
 
     fn add_links(&mut self, random: &mut Random, size: &Size) {
         let fewest = if size.full { size.most_links } else { self.sets.len() };
-        let count = random.between(fewest, size.most_links);
+        // With few links many a set has one alone, whose far end is reached by another set or not at all.
+        let most = if random.one_in(3) { size.most_links.min(fewest + 2) } else { size.most_links };
+        let count = random.between(fewest, most);
         let mut numbers = random.distinct(count, 31).into_iter();
         for (place, links) in self.links_of_sets(random, count).into_iter().enumerate() {
             for slc in random.distinct(links, 15) {
@@ -84,7 +86,13 @@ impl Arrangement {
             if adjacent && !size.full && random.one_in(10) {
                 continue; // an adjacent point without a route line
             }
-            let count = random.between(1, self.sets.len().min(4));
+            let most = self.sets.len().min(4);
+            // A failed link's far end mostly has another route, and many a destination hasn't.
+            let count = match random.below(4) {
+                0 if adjacent => most,
+                0 => 1,
+                _ => random.between(1, most),
+            };
             let mut by = random.distinct(count, self.sets.len() - 1);
             if adjacent {
                 by.retain(|set| *set != own_set);
@@ -136,8 +144,10 @@ fn spoil_number(random: &mut Random, text: &mut String) {
     let numbers: Vec<usize> = text.match_indices('\t').map(|(tab, _)| tab + 1).collect();
     let from = random.pick(&numbers).expect("some numbers");
     let digits = text[from..].bytes().take_while(u8::is_ascii_digit).count();
-    let others = ["0", "1", "3", "4", "7", "8", "15", "16", "31", "32", "16383", "16384", "65536", "007", "",
-        "18446744073709551616", "36893488147419103232"];
+    let others = [
+        "0", "1", "3", "4", "7", "8", "15", "16", "31", "32", "16383", "16384", "65536", "007", "",
+        "18446744073709551616", "36893488147419103232",
+    ];
     text.replace_range(from..from + digits, random.pick(&others).expect("some numbers"));
 }
 

@@ -102,8 +102,15 @@ impl Maker {
         let link = self.link_where(|_| true)?;
         let (opc, slc) = (self.run.point.adjacent(link), self.run.point.link(link).slc);
         let fsn = self.random.below(128) as u8;
-        let orders = [Management::Coo { fsn }, Management::Coa { fsn }, Management::Eco, Management::Eca,
-            Management::Cbd { code: fsn }, Management::Tfp { destination: 1 }, Management::Rst { destination: 1 }];
+        let orders = [
+            Management::Coo { fsn },
+            Management::Coa { fsn },
+            Management::Eco,
+            Management::Eca,
+            Management::Cbd { code: fsn },
+            Management::Tfp { destination: 1 },
+            Management::Rst { destination: 1 },
+        ];
         let order = self.random.pick(&orders)?;
         let mut octets = self.management_octets(opc, slc, order);
         match self.random.below(4) {

@@ -3,15 +3,19 @@
 use crate::point::{Effects, LinkState, Message, Reply, Report, TransferPoint};
 use crate::wire::{self, Label, Management};
 
+/// Reasons of a drop. A third was once that of a number not in range; its number isn't used again.
 pub const NO_ROUTE: u8 = 1;
 pub const NO_NUMBER: u8 = 2;
-pub const NUMBER_NOT_IN_RANGE: u8 = 3;
 
-/// How a changeover ends: by the far end's number F, or without any.
+/// What the end of a changeover says of the messages sent and not acknowledged.
 #[derive(Clone, Copy, PartialEq, Eq, Debug)]
 pub(crate) enum Ending {
+    /// COO or COA: those up to the number were taken, if it is in range.
     Number(u8),
+    /// ECO or ECA: the far end has no number to give.
     NoNumber,
+    /// T1 or T2 ran out, or the link was still waiting: nothing was said at all.
+    Silence,
 }
 
 enum Fate {
@@ -20,21 +24,24 @@ enum Fate {
     Moved,
 }
 
-/// What becomes of the message at a place of the queue of a link that goes out.
+/// What becomes of the message at a place of the queue of a link that goes out. A message that may have been
+/// taken moves all the same: one that arrives twice does less harm than one that never does.
 fn fate(place: usize, sent: usize, last_acknowledged: u8, ending: Ending) -> Fate {
     if place >= sent {
         return Fate::Moved;
     }
-    let Ending::Number(f) = ending else {
-        return Fate::Dropped(NO_NUMBER);
-    };
-    let retired = wire::distance(last_acknowledged, f);
-    if retired > sent {
-        Fate::Dropped(NUMBER_NOT_IN_RANGE)
-    } else if place < retired {
-        Fate::Retired
-    } else {
-        Fate::Moved
+    match ending {
+        Ending::Silence => Fate::Moved,
+        Ending::NoNumber => Fate::Dropped(NO_NUMBER),
+        Ending::Number(f) => {
+            let taken = wire::distance(last_acknowledged, f);
+            let in_range = taken <= sent;
+            if in_range && place < taken {
+                Fate::Retired
+            } else {
+                Fate::Moved
+            }
+        }
     }
 }
 
@@ -86,7 +93,7 @@ impl TransferPoint {
             return Err(Reply::WrongState);
         }
         let mut effects = Effects::default();
-        self.go_out_and_move(number, Ending::NoNumber, &mut effects);
+        self.go_out_and_move(number, Ending::Silence, &mut effects);
         Ok(effects)
     }
 
@@ -96,7 +103,7 @@ impl TransferPoint {
             return Err(Reply::WrongState);
         }
         let mut effects = Effects::default();
-        self.go_out_and_move(number, Ending::NoNumber, &mut effects);
+        self.go_out_and_move(number, Ending::Silence, &mut effects);
         Ok(effects)
     }
 

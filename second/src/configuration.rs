@@ -162,8 +162,10 @@ mod tests {
         for line in ["\n", "sets 1 3\n", "set 1 3 4\n", "set 1\n", "set 1 3", "set 00 1", " set 1 3\n"] {
             assert_eq!(after_head(line), Some((5, 20)), "{line:?}");
         }
-        for line in ["set 01 3\n", "set 1 \n", "set +1 3\n", "set 1 16384\n", "set 8 3\n", "link 32 0 1\n",
-            "link 1 5 16\n", "route 1 5 4\n", "set 1 3\r\n", "set 99999999999999999999 3\n", "node 3 4\n"] {
+        for line in [
+            "set 01 3\n", "set 1 \n", "set +1 3\n", "set 1 16384\n", "set 8 3\n", "link 32 0 1\n", "link 1 5 16\n",
+            "route 1 5 4\n", "set 1 3\r\n", "set 99999999999999999999 3\n", "node 3 4\n",
+        ] {
             assert_eq!(after_head(line), Some((5, 21)), "{line:?}");
         }
     }
@@ -172,8 +174,10 @@ mod tests {
     fn names_and_repeats() {
         assert_eq!(after_head("link 0 5 0\n"), Some((5, 23)));
         assert_eq!(after_head("route 2 5 0\n"), Some((5, 23)));
-        for line in ["node 2 2\n", "set 0 9\n", "set 1 1\n", "set 1 2\n", "link 0 0 1\n", "link 1 0 0\n",
-            "route 1 0 1\n", "route 2 0 0\n"] {
+        for line in [
+            "node 2 2\n", "set 0 9\n", "set 1 1\n", "set 1 2\n", "link 0 0 1\n", "link 1 0 0\n", "route 1 0 1\n",
+            "route 2 0 0\n",
+        ] {
             assert_eq!(after_head(line), Some((5, 22)), "{line:?}");
         }
         assert_eq!(after_head("set 1 3\nroute 1 1 0\n"), Some((6, 22)));

@@ -2,12 +2,13 @@
 
 use std::collections::BTreeMap;
 
+use crate::corners_of_endings::Doubts;
 use crate::point::{Call, Link, LinkState, Message, Output, Reply};
 use crate::point::{HIGHEST_FSN, MANAGEMENT_PLACES, USER_PLACES, WINDOW};
 use crate::run::{self, Step};
 use crate::wire::{self, Label, Management};
 
-pub const CORNERS: [&str; 67] = [
+pub const CORNERS: [&str; 90] = [
     // Sequence numbers. To wrap is to pass from 127 to 0 with both among the numbers in question.
     "window full",
     "FSN wraps",
@@ -60,6 +61,31 @@ pub const CORNERS: [&str; 67] = [
     "moved to a waiting link",
     "moved to a changing link",
     "moved under T6",
+    // What becomes of sent and unsent messages of one queue, with another route and without.
+    "T1: sent and unsent move",
+    "T1: sent and unsent without a route",
+    "T2: sent and unsent move",
+    "T2: sent and unsent without a route",
+    "COO out of range: sent and unsent move",
+    "COO out of range: sent and unsent without a route",
+    "COA out of range: sent and unsent move",
+    "COA out of range: sent and unsent without a route",
+    "ECO: sent dropped, unsent move",
+    "ECO: sent dropped, unsent without a route",
+    "ECA: sent dropped, unsent move",
+    "ECA: sent dropped, unsent without a route",
+    "out of range with nothing sent",
+    // Messages that may arrive twice: sent on a link whose changeover told nothing.
+    "of those sent some move, some have no route",
+    "may arrive twice: a full window",
+    "may arrive twice: numbers wrap",
+    "may arrive twice: management message",
+    "may arrive twice: behind the answer",
+    "may arrive twice: to a waiting link",
+    "may arrive twice: to a changing link",
+    "may arrive twice: under T6",
+    "may arrive twice: by a second move",
+    "sent management message without a path",
     // Into service and changeback.
     "into service, open",
     "into service, T3",
@@ -90,8 +116,9 @@ pub type Counts = BTreeMap<&'static str, usize>;
 /// Counts of a run; a refused configuration or a line that can't be read ends it, as in a replay.
 pub fn corners(configuration: &[u8], record: &[u8]) -> Counts {
     let mut counts: Counts = CORNERS.iter().map(|name| (*name, 0)).collect();
+    let mut doubts = Doubts::default();
     run::every_call(configuration, record, u64::MAX, |step| {
-        for name in step.corners() {
+        for name in step.corners().into_iter().chain(doubts.of_ending(step)) {
             *counts.get_mut(name).expect("a listed corner") += 1;
         }
     });
@@ -102,9 +129,9 @@ pub fn text(counts: &Counts) -> String {
     CORNERS.iter().map(|name| format!("{name}\t{}\n", counts[name])).collect()
 }
 
-type Found = Vec<&'static str>;
+pub(crate) type Found = Vec<&'static str>;
 
-fn names(candidates: &[(bool, &'static str)]) -> Found {
+pub(crate) fn names(candidates: &[(bool, &'static str)]) -> Found {
     candidates.iter().filter(|(holds, _)| *holds).map(|(_, name)| *name).collect()
 }
 

@@ -27,11 +27,29 @@ impl fmt::Display for Place {
 #[derive(Clone, Copy, PartialEq, Eq, Debug)]
 pub enum Fate {
     /// With its name where this point made the message.
-    Queued { arrival: u64, place: Place, name: Option<&'static str> },
-    Sent { arrival: u64, link: u8, fsn: u8 },
-    Acknowledged { arrival: u64, link: u8 },
-    Retired { arrival: u64, link: u8 },
-    Moved { arrival: u64, from: Place, to: Place },
+    Queued {
+        arrival: u64,
+        place: Place,
+        name: Option<&'static str>,
+    },
+    Sent {
+        arrival: u64,
+        link: u8,
+        fsn: u8,
+    },
+    Acknowledged {
+        arrival: u64,
+        link: u8,
+    },
+    Retired {
+        arrival: u64,
+        link: u8,
+    },
+    Moved {
+        arrival: u64,
+        from: Place,
+        to: Place,
+    },
 }
 
 /// In the order in which a call's fates are written.

@@ -5,7 +5,6 @@ use std::collections::BTreeMap;
 use crate::arrangement::{random_configuration, spoil};
 use crate::circuits::Circuits;
 use crate::configuration;
-use crate::corners::sent_across_the_wrap;
 use crate::point::{Call, Link, LinkState, Reply, USER_PLACES, WINDOW};
 use crate::random::Random;
 use crate::record;
@@ -51,7 +50,7 @@ fn record_of(mut maker: Maker, seed: u64, lines: usize) -> String {
 
 /// Stretches of a record in which some events are more frequent.
 #[derive(Clone, Copy, PartialEq, Eq, Debug)]
-enum Mood {
+pub(crate) enum Mood {
     Ordinary,
     Recovery,
     /// User messages and no acknowledgements.
@@ -90,6 +89,8 @@ enum Event {
 }
 
 impl Mood {
+    // A table: events side by side, a stretch's in a few lines.
+    #[rustfmt::skip]
     fn weights(self) -> &'static [(Event, usize)] {
         use Event::*;
         match self {
@@ -113,7 +114,7 @@ impl Mood {
             ],
             Mood::Window => &[(Host, 22), (Send, 24), (Ack, 3), (T6, 1)],
             Mood::Passing => &[
-                (Host, 8), (Transit, 3), (Send, 16), (Ack, 4), (Failure, 1), (Order, 1), (T6, 1),
+                (Host, 8), (Transit, 3), (Send, 16), (Ack, 4), (Failure, 2), (Order, 2), (T6, 1),
             ],
             Mood::Rerouting => &[
                 (Tfp, 9), (Tfa, 8), (T10, 3), (Rst, 3), (T6, 2), (T8, 2), (Host, 14), (Transit, 10),
@@ -140,7 +141,7 @@ pub(crate) struct Maker {
     pub(crate) run: Run,
     /// Of each link, the number of the last message the far end took.
     taken: BTreeMap<u8, u8>,
-    mood: Mood,
+    pub(crate) mood: Mood,
     lines_left: usize,
     /// The pair that the moods Window and Passing fill.
     focus: (u16, u8),
@@ -169,8 +170,10 @@ impl Maker {
     }
 
     fn unreadable_line(&mut self) -> &'static str {
-        let lines = ["service\n", "service\t01\n", "host\t0g\n", "ack\t0\n", "routes\t\n", "t5\t0\n", "\n",
-            "send\t18446744073709551616\n", "routes", "host\t800\n", "received\t0\t0\t80\t\n"];
+        let lines = [
+            "service\n", "service\t01\n", "host\t0g\n", "ack\t0\n", "routes\t\n", "t5\t0\n", "\n",
+            "send\t18446744073709551616\n", "routes", "host\t800\n", "received\t0\t0\t80\t\n",
+        ];
         self.random.pick(&lines).expect("some lines")
     }
 
@@ -181,12 +184,12 @@ impl Maker {
         }
         let keeps_focus = self.focused();
         let moods = match self.mood {
-            Mood::Window => &[Mood::Passing, Mood::Passing, Mood::Storm][..],
+            Mood::Window => &[Mood::Passing, Mood::Passing, Mood::Storm, Mood::Storm][..],
             Mood::Burst | Mood::Jam | Mood::Passing => &[Mood::Storm, Mood::Storm, Mood::Ordinary],
             Mood::Storm => &[Mood::Recovery, Mood::Recovery, Mood::Rerouting, Mood::Ordinary],
             Mood::Recovery => &[Mood::Window, Mood::Window, Mood::Burst, Mood::Jam, Mood::Rerouting],
             Mood::Ordinary | Mood::Rerouting => {
-                &[Mood::Burst, Mood::Jam, Mood::Window, Mood::Storm, Mood::Rerouting, Mood::Ordinary]
+                &[Mood::Burst, Mood::Jam, Mood::Window, Mood::Window, Mood::Storm, Mood::Rerouting, Mood::Ordinary]
             }
         };
         self.mood = self.random.pick(moods).expect("some moods");
@@ -216,7 +219,7 @@ impl Maker {
         matches!(self.mood, Mood::Window | Mood::Passing)
     }
 
-    fn focused_link(&self) -> Option<u8> {
+    pub(crate) fn focused_link(&self) -> Option<u8> {
         let (dpc, sls) = self.focus;
         self.sending_link(dpc, sls)
     }
@@ -307,6 +310,11 @@ impl Maker {
     fn pair_for_traffic(&mut self) -> (u16, u8) {
         if self.focused() && !self.random.one_in(8) {
             return self.focus;
+        }
+        if let Some(pair) = self.pair_cut_off().filter(|_| self.mood == Mood::Storm) {
+            if self.random.one_in(3) {
+                return pair;
+            }
         }
         let sls = self.random.below(16) as u8;
         let under_t6 = self.destination_where(|maker, code| maker.run.point.destinations[&code].t6);
@@ -419,7 +427,7 @@ impl Maker {
     }
 
     /// The far end takes some more of what was sent; gives its last number.
-    fn far_end_takes(&mut self, link: u8) -> u8 {
+    pub(crate) fn far_end_takes(&mut self, link: u8) -> u8 {
         let (last, sent) = (self.run.point.link(link).last_acknowledged, self.run.point.link(link).sent);
         let known = self.taken.get(&link).map_or(0, |taken| wire::distance(last, *taken));
         let known = if known > sent { 0 } else { known };
@@ -446,76 +454,6 @@ impl Maker {
 
     fn service(&mut self) -> Option<Call> {
         self.link_where(|link| !link.carrying()).map(|link| Call::Service(link as u64))
-    }
-
-    fn failure(&mut self) -> Option<Call> {
-        if let Some(link) = self.link_in_focus() {
-            return Some(Call::Failure(link as u64));
-        }
-        if self.mood == Mood::Passing {
-            return None;
-        }
-        let state = if self.random.one_in(4) { LinkState::Waiting } else { LinkState::Open };
-        let links = self.links_where(|link| link.state == state);
-        if links.len() == 1 && !self.random.one_in(4) {
-            return None;
-        }
-        self.random.pick(&links).map(|link| Call::Failure(link as u64))
-    }
-
-    /// A changeover number: true, one in range, just out of range, or any.
-    /// Near the wrap the false ones are as frequent as the true ones.
-    pub(crate) fn changeover_number(&mut self, link: u8) -> u8 {
-        let (last, sent) = (self.run.point.link(link).last_acknowledged, self.run.point.link(link).sent);
-        let least = if sent_across_the_wrap(self.run.point.link(link)) { 5 } else { 0 };
-        match self.random.between(least, 9) {
-            0..=5 => self.far_end_takes(link),
-            6 => wire::step_on(last, self.random.between(0, sent)),
-            7 => wire::step_on(last, sent + 1),
-            8 => wire::step_on(last, 127),
-            _ => self.random.below(128) as u8,
-        }
-    }
-
-    fn changeover_end(&mut self) -> Option<Call> {
-        let link = self.link_where(|link| link.state == LinkState::Changing)?;
-        let (t2, wraps) = (self.run.point.link(link).t2, sent_across_the_wrap(self.run.point.link(link)));
-        let fsn = self.changeover_number(link);
-        // Across the wrap, which is rare, always by a number.
-        match self.random.below(10) {
-            0..=4 if t2 && wraps => self.about(link, Management::Coa { fsn }),
-            _ if wraps => self.about(link, Management::Coo { fsn }),
-            0 if t2 => Some(Call::T2(link as u64)),
-            0..=3 if !t2 => Some(Call::T1(link as u64)),
-            0..=5 if t2 => self.about(link, Management::Coa { fsn }),
-            6 if t2 => self.about(link, Management::Eca),
-            7 => self.about(link, Management::Eco),
-            _ => self.about(link, Management::Coo { fsn }),
-        }
-    }
-
-    /// The link filled before, so that changeovers meet full windows: always if its numbers
-    /// pass 127, else one time in three, but not while they are about to.
-    fn link_in_focus(&mut self) -> Option<u8> {
-        let link = self.focused_link()?;
-        let passing = sent_across_the_wrap(self.run.point.link(link));
-        let meant = passing || self.mood != Mood::Passing && self.random.one_in(3);
-        meant.then_some(link)
-    }
-
-    /// COO or ECO about a link that isn't changing here: open, waiting, or by then out.
-    fn order(&mut self) -> Option<Call> {
-        let focus = self.link_in_focus();
-        let link = match self.random.below(5) {
-            _ if focus.is_some() || self.mood == Mood::Passing => focus?,
-            0 => self.link_where(|link| !link.carrying())?,
-            1 => self.link_where(|link| link.state == LinkState::Waiting)?,
-            _ => self.link_where(|link| link.state == LinkState::Open)?,
-        };
-        let fsn = self.changeover_number(link);
-        let wraps = sent_across_the_wrap(self.run.point.link(link));
-        let order = if !wraps && self.random.one_in(3) { Management::Eco } else { Management::Coo { fsn } };
-        self.about(link, order)
     }
 
     fn waiting_end(&mut self) -> Option<Call> {

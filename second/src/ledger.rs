@@ -7,6 +7,7 @@ use std::rc::Rc;
 use crate::places::Places;
 use crate::point::{Call, Link, LinkState, Message, Outcome, Output, Reply, Report, TransferPoint};
 use crate::point::{MANAGEMENT_PLACES, USER_PLACES, WINDOW};
+use crate::promises::{check_ending, check_routes};
 use crate::run::Made;
 use crate::wire::{self, Label};
 
@@ -41,6 +42,8 @@ impl Ledger {
         check_standing(before, after)?;
         check_stores(after)?;
         check_timers(after)?;
+        check_ending(made, call, after)?;
+        check_routes(made, after)?;
         check_lemmas(before, outcome, after)
     }
 

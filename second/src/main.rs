@@ -4,11 +4,11 @@ use std::path::Path;
 use std::process::ExitCode;
 
 use second::arguments::{self, Options, Request};
-use second::replay::Written;
-use second::run::End;
 use second::compare::compare;
 use second::compare_traces::compare_traces;
 use second::generate::{generate, generate_with_circuits, Generated};
+use second::replay::Written;
+use second::run::End;
 use second::{corners, count, replay, trace, words};
 
 const USAGE: &str = "second replay [options] CONFIGURATION RECORD
@@ -55,7 +55,9 @@ fn run_other(command: &OsString, behind: &[OsString]) -> Result<u8, String> {
             print(&corners::text(&corners::corners(&read(configuration)?, &read(record)?)))?
         }
         ["compare", "--trace", record, ours, theirs] => return run_compare(compare_traces, [record, ours, theirs]),
-        ["compare", record, ours, theirs] if record != "--trace" => return run_compare(compare, [record, ours, theirs]),
+        ["compare", record, ours, theirs] if record != "--trace" => {
+            return run_compare(compare, [record, ours, theirs])
+        }
         _ => return Err(USAGE.to_string()),
     }
     Ok(0)

@@ -89,12 +89,22 @@ pub struct Asked {
     pub destination: Option<u16>,
     pub circuit: Option<u16>,
     pub lost: bool,
+    pub twice: bool,
     pub changeovers: bool,
 }
 
 impl Default for Asked {
     fn default() -> Asked {
-        Asked { link: None, from: 1, to: u64::MAX, destination: None, circuit: None, lost: false, changeovers: false }
+        Asked {
+            link: None,
+            from: 1,
+            to: u64::MAX,
+            destination: None,
+            circuit: None,
+            lost: false,
+            twice: false,
+            changeovers: false,
+        }
     }
 }
 
@@ -109,6 +119,7 @@ Runs the record and writes of each message that was queued what became of it.
 --destination CODE  only those for that destination (0 to 16383)
 --circuit CIRCUIT   only those of which the line says that circuit (0 to 4095)
 --lost              only those dropped, and those held at the end that were sent on the link they are held on
+--twice             only those that may arrive twice by one of their moves
 --changeovers       no messages, but a sentence for each link that went out, whatever chooses messages
 --help              this
 --                  behind it stand files alone
@@ -123,6 +134,7 @@ Of an option that stands twice the last counts.
             "--destination" => self.destination = Some(behind.number(option, HIGHEST_CODE)? as u16),
             "--circuit" => self.circuit = Some(behind.number(option, HIGHEST_CIRCUIT)? as u16),
             "--lost" => self.lost = true,
+            "--twice" => self.twice = true,
             "--changeovers" => self.changeovers = true,
             _ => return Ok(false),
         }

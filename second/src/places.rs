@@ -192,9 +192,18 @@ mod tests {
     #[test]
     fn fates_that_cannot_be() {
         let drop = |arrival| Report::Drop { arrival, reason: 1 };
-        for fates in [&[queued(4)][..], &[sent(2)], &[acknowledged(1)], &[acknowledged(0), acknowledged(1)],
-            &[moved(2), moved(1)], &[moved(1), moved(1)], &[moved(3)], &[between(1, ON_0, ON_0)],
-            &[between(1, ON_0, Place::Apart)], &[moved(1), between(1, Place::On(1), ON_0)]] {
+        for fates in [
+            &[queued(4)][..],
+            &[sent(2)],
+            &[acknowledged(1)],
+            &[acknowledged(0), acknowledged(1)],
+            &[moved(2), moved(1)],
+            &[moved(1), moved(1)],
+            &[moved(3)],
+            &[between(1, ON_0, ON_0)],
+            &[between(1, ON_0, Place::Apart)],
+            &[moved(1), between(1, Place::On(1), ON_0)],
+        ] {
             assert!(refused(fates, &[]), "{fates:?}");
         }
         assert!(refused(&[acknowledged(0)], &[drop(0)]));

@@ -116,7 +116,10 @@ pub enum Report {
 pub enum Output {
     #[default]
     Nothing,
-    Leaves { fsn: u8, octets: Vec<u8> },
+    Leaves {
+        fsn: u8,
+        octets: Vec<u8>,
+    },
     Delivered(Vec<u8>),
     RouteList(Vec<String>),
 }
@@ -286,9 +289,7 @@ impl TransferPoint {
     fn link_in_set(&self, set: u8, sls: u8, will_do: &dyn Fn(&Link) -> bool) -> Option<u8> {
         let links = &self.sets[&set].links;
         let m = links.len();
-        (0..m)
-            .map(|step| links[(sls as usize + step) % m])
-            .find(|number| will_do(self.link(*number)))
+        (0..m).map(|step| links[(sls as usize + step) % m]).find(|number| will_do(self.link(*number)))
     }
 
     /// The link of the best unmarked route that has one that will do.

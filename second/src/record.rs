@@ -30,11 +30,9 @@ pub fn read_line(line: &[u8]) -> Option<Call> {
         [kind, number] => one_number(kind, plain_decimal(number)?),
         [b"ack", link, number] => Some(Call::Ack(plain_decimal(link)?, plain_decimal(number)?)),
         [b"t10", destination, set] => Some(Call::T10(plain_decimal(destination)?, plain_decimal(set)?)),
-        [b"received", link, fsn, message] => Some(Call::Received {
-            link: plain_decimal(link)?,
-            fsn: plain_decimal(fsn)?,
-            octets: octets(message)?,
-        }),
+        [b"received", link, fsn, message] => {
+            Some(Call::Received { link: plain_decimal(link)?, fsn: plain_decimal(fsn)?, octets: octets(message)? })
+        }
         _ => None,
     }
 }
@@ -81,9 +79,11 @@ mod tests {
     #[test]
     fn lines_that_cannot_be_read() {
         let long = format!("host\t{}\n", "00".repeat(1_025));
-        for line in ["\n", "service\n", "service\t\n", "service\t01\n", "service\t0", "service\t-1\n", "t5\t0\n",
+        for line in [
+            "\n", "service\n", "service\t\n", "service\t01\n", "service\t0", "service\t-1\n", "t5\t0\n",
             "send\t18446744073709551616\n", "routes\t\n", "host\n", "host\t0\n", "host\t0g\n", "ack\t0\n",
-            "received\t0\t0\n", "service\t0\r\n", "Service\t0\n", "t10\t1\n", &long] {
+            "received\t0\t0\n", "service\t0\r\n", "Service\t0\n", "t10\t1\n", &long,
+        ] {
             assert_eq!(read_line(line.as_bytes()), None, "{line:?}");
         }
     }

@@ -2,10 +2,11 @@
 
 use std::collections::BTreeMap;
 
+use crate::endings::{may_arrive_twice, number_not_in_range, order};
 use crate::fates::{gone_out, Fate, Place};
 use crate::point::{Call, Link, LinkState, Report};
 use crate::run::Step;
-use crate::wire::{Management, SHORTEST};
+use crate::wire::Management;
 
 #[derive(Default)]
 pub struct Changeovers {
@@ -24,7 +25,7 @@ impl Changeovers {
             self.text += &format!(
                 "link {link}: {failed}changed over at line {} by {}; {}\n",
                 step.number,
-                ended_by(step.call),
+                ended_by(step.before.link(link), step.call),
                 counts(step)
             );
         }
@@ -38,26 +39,12 @@ fn begun(step: &Step) -> Option<u8> {
     links.find(|link| changing(link) && !changing(step.before.link(link.number))).map(|link| link.number)
 }
 
-fn order(call: &Call) -> Option<Management> {
-    match call {
-        Call::Received { octets, .. } => Management::read(octets.get(SHORTEST..)?),
-        _ => None,
-    }
-}
-
-/// The number of a COO or COA.
-pub fn ordered_number(call: &Call) -> Option<u8> {
-    match order(call)? {
-        Management::Coo { fsn } | Management::Coa { fsn } => Some(fsn),
-        _ => None,
-    }
-}
-
-/// What took the link out.
-fn ended_by(call: &Call) -> String {
+/// What took the link out, as it was before.
+fn ended_by(link: &Link, call: &Call) -> String {
     match (call, order(call)) {
         (_, Some(order @ (Management::Coo { fsn } | Management::Coa { fsn }))) => {
-            format!("{} with number {fsn}", order.name())
+            let range = if number_not_in_range(link, call) { " not in range" } else { "" };
+            format!("{} with number {fsn}{range}", order.name())
         }
         (_, Some(order @ (Management::Eco | Management::Eca))) => order.name().to_string(),
         (Call::T1(_), _) => "T1".to_string(),
@@ -78,7 +65,11 @@ fn counts(step: &Step) -> String {
         }
     }
     let sum: usize = moved.values().sum();
-    format!("{retired} retired, {sum} moved{}, {dropped} dropped", in_brackets(&moved))
+    let twice = match may_arrive_twice(step).len() {
+        0 => String::new(),
+        count => format!(", {count} may arrive twice"),
+    };
+    format!("{retired} retired, {sum} moved{}, {dropped} dropped{twice}", in_brackets(&moved))
 }
 
 fn in_brackets(moved: &BTreeMap<Place, usize>) -> String {

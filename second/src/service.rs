@@ -31,8 +31,7 @@ impl TransferPoint {
         }
         let giving = self.links_giving_way(number);
         let own_set = self.link(number).set;
-        let (inside, outside): (Vec<u8>, Vec<u8>) =
-            giving.into_iter().partition(|m| self.link(*m).set == own_set);
+        let (inside, outside): (Vec<u8>, Vec<u8>) = giving.into_iter().partition(|m| self.link(*m).set == own_set);
         self.room_for_management(inside.len())?;
 
         let before = self.access();
@@ -134,7 +133,7 @@ impl TransferPoint {
         let mut effects = Effects::default();
         match self.link(number).state {
             LinkState::Open => self.start_changeover(number),
-            LinkState::Waiting => self.go_out_and_move(number, Ending::NoNumber, &mut effects),
+            LinkState::Waiting => self.go_out_and_move(number, Ending::Silence, &mut effects),
             LinkState::Out | LinkState::Changing => return Err(Reply::WrongState),
         }
         Ok(effects)

@@ -14,6 +14,18 @@ struct Move {
     from: Place,
     to: Place,
     line: usize,
+    /// Where it may arrive twice, the number that it had left with.
+    twice_as: Option<u8>,
+}
+
+impl Move {
+    fn text(&self) -> String {
+        let Move { from, to, line, twice_as } = self;
+        match twice_as {
+            Some(fsn) => format!("sent on {from} as {fsn}, moved to {to} at {line}, may arrive twice"),
+            None => format!("moved {from} to {to} at {line}"),
+        }
+    }
 }
 
 #[derive(Clone, Copy)]
@@ -52,11 +64,12 @@ impl Story {
         self.sent = Some(Sent { fsn, line });
     }
 
-    /// A message that moved is unsent where it stands now.
-    pub fn shift(&mut self, from: Place, to: Place, line: usize) {
-        self.moves.push(Move { from, to, line });
+    /// A message that moved is unsent where it stands now; the far end that it left may have it too.
+    pub fn shift(&mut self, from: Place, to: Place, line: usize, twice: bool) {
+        let sent = self.sent.take();
+        let twice_as = twice.then(|| sent.expect("what may arrive twice was sent").fsn);
+        self.moves.push(Move { from, to, line, twice_as });
         self.place = to;
-        self.sent = None;
     }
 
     pub fn is_asked_for(&self, asked: &Asked, ending: &Ending) -> bool {
@@ -67,6 +80,7 @@ impl Story {
             && asked.destination.is_none_or(|destination| label.dpc == destination)
             && asked.circuit.is_none_or(|asked| circuit == Some(asked))
             && (!asked.lost || self.is_lost(ending))
+            && (!asked.twice || self.may_arrive_twice())
     }
 
     /// The queue that it joined first is the one that it first moved from.
@@ -81,6 +95,11 @@ impl Story {
             Ending::Held => self.sent.is_some(),
             Ending::Acknowledged | Ending::Retired(_) => false,
         }
+    }
+
+    /// By any of its moves, told or not.
+    fn may_arrive_twice(&self) -> bool {
+        self.moves.iter().any(|a_move| a_move.twice_as.is_some())
     }
 
     /// The line of a trace; the ending came with a line of the record.
@@ -106,8 +125,7 @@ impl Story {
         if untold > 0 {
             parts.push(format!("moved {untold} times before"));
         }
-        let told = self.moves[untold..].iter();
-        parts.extend(told.map(|Move { from, to, line }| format!("moved {from} to {to} at {line}")));
+        parts.extend(self.moves[untold..].iter().map(Move::text));
         parts
     }
 
@@ -139,7 +157,7 @@ mod tests {
         let mut story = Story::new(message, 5, Place::On(0));
         for turn in 0..times {
             let (from, to) = (Place::On(turn as u8 % 2), Place::On((turn as u8 + 1) % 2));
-            story.shift(from, to, 11 + turn);
+            story.shift(from, to, 11 + turn, false);
         }
         story.text(&Ending::Held, 99)
     }

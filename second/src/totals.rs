@@ -10,7 +10,7 @@ use crate::point::{Reply, Report};
 pub struct Totals {
     replies: [u64; 12],
     /// By reason; none has reason 0.
-    drops: [u64; 4],
+    drops: [u64; 3],
     pauses: u64,
     resumes: u64,
     fates: BTreeMap<&'static str, u64>,
@@ -37,7 +37,7 @@ impl Totals {
     pub fn text(&self, shown: &Shown) -> String {
         let replies = self.replies.iter().enumerate();
         let mut text: String = replies.map(|(reply, count)| format!("total\treply\t{reply}\t{count}\n")).collect();
-        text.extend((1..=3).map(|reason| format!("total\tdrop\t{reason}\t{}\n", self.drops[reason])));
+        text.extend((1..=2).map(|reason| format!("total\tdrop\t{reason}\t{}\n", self.drops[reason])));
         text += &format!("total\tpause\t{}\ntotal\tresume\t{}\n", self.pauses, self.resumes);
         if shown.fates {
             let count = |kind| self.fates.get(kind).copied().unwrap_or(0);

@@ -1,13 +1,14 @@
 //! A trace: a line for each message that was queued, once it is known what became of it.
 
-use std::collections::BTreeMap;
+use std::collections::{BTreeMap, BTreeSet};
 
+use crate::endings::{may_arrive_twice, ordered_number};
 use crate::fates::Fate;
 use crate::options::Asked;
 use crate::point::Report;
 use crate::replay::{refusal, Written};
 use crate::run::{self, Step};
-use crate::sentences::{ordered_number, Changeovers};
+use crate::sentences::Changeovers;
 use crate::story::{Ending, Story};
 
 pub fn trace(configuration: &[u8], record: &[u8], asked: &Asked) -> Written {
@@ -34,8 +35,9 @@ struct Stories<'a> {
 
 impl Stories<'_> {
     fn enter(&mut self, step: &Step) {
+        let twice = may_arrive_twice(step);
         for fate in step.fates {
-            self.enter_fate(step, fate);
+            self.enter_fate(step, fate, &twice);
         }
         for report in &step.outcome.effects.reports {
             if let Report::Drop { arrival, reason } = report {
@@ -46,14 +48,16 @@ impl Stories<'_> {
         assert_eq!(self.held.len(), held, "line {}: messages with a story, and held", step.number);
     }
 
-    fn enter_fate(&mut self, step: &Step, fate: &Fate) {
+    fn enter_fate(&mut self, step: &Step, fate: &Fate, twice: &BTreeSet<u64>) {
         match *fate {
             Fate::Queued { arrival, place, .. } => {
                 let message = step.after.held().find(|message| message.arrival == arrival).expect("a queued message");
                 self.held.insert(arrival, Story::new(message.clone(), step.number, place));
             }
             Fate::Sent { arrival, fsn, .. } => self.story(arrival).send(fsn, step.number),
-            Fate::Moved { arrival, from, to } => self.story(arrival).shift(from, to, step.number),
+            Fate::Moved { arrival, from, to } => {
+                self.story(arrival).shift(from, to, step.number, twice.contains(&arrival));
+            }
             Fate::Acknowledged { arrival, .. } => self.end(arrival, Ending::Acknowledged, step.number),
             Fate::Retired { arrival, .. } => {
                 let number = ordered_number(step.call).expect("only a changeover number retires");

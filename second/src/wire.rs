@@ -25,11 +25,7 @@ impl Label {
     /// The label of a message of at least five octets.
     pub fn read(octets: &[u8]) -> Label {
         let word = u32::from_le_bytes([octets[1], octets[2], octets[3], octets[4]]);
-        Label {
-            dpc: (word % 16_384) as u16,
-            opc: (word / 16_384 % 16_384) as u16,
-            sls: (word / 268_435_456) as u8,
-        }
+        Label { dpc: (word % 16_384) as u16, opc: (word / 16_384 % 16_384) as u16, sls: (word / 268_435_456) as u8 }
     }
 
     pub fn write(self) -> [u8; 4] {

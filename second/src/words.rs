@@ -26,7 +26,6 @@ pub fn of_reason(reason: u8) -> &'static str {
     match reason {
         1 => "no route",
         2 => "sent, and what the far end took isn't known",
-        3 => "sent, and the changeover number isn't in range",
         _ => unreachable!("no drop has reason {reason}"),
     }
 }

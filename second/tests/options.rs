@@ -4,14 +4,15 @@ mod common;
 
 use common::{file, run, second, tabs, Ran, TWO_WAYS};
 
+/// ECO about link 0, over the link itself: one message is sent, one isn't, and neither has another way.
 const RECORD: &str = "
 service 0
 host 850180000001
 host 85018000000A
 send 0
 send 9
-failure 0
-t1 0
+ack 0 127
+received 0 0 800240000012
 host 850180000003
 ";
 
@@ -72,7 +73,9 @@ fn only_reports() {
 
 #[test]
 fn with_fates() {
-    check(&["--fates", "--to", "4"], "
+    check(
+        &["--fates", "--to", "4"],
+        "
 1 reply 0
 1 resume 1
 1 resume 9
@@ -82,19 +85,23 @@ fn with_fates() {
 3 queued 1 0
 4 reply 0 0 850180000001
 4 sent 0 0 0
-");
+",
+    );
 }
 
 #[test]
 fn with_calls_as_they_stand_in_the_record() {
-    check(&["--calls", "--from", "3", "--to", "5"], "
+    check(
+        &["--calls", "--from", "3", "--to", "5"],
+        "
 3 call host 85018000000A
 3 reply 0
 4 call send 0
 4 reply 0 0 850180000001
 5 call send 9
 5 reply 2
-");
+",
+    );
 }
 
 #[test]
@@ -134,7 +141,6 @@ total reply 10 0
 total reply 11 0
 total drop 1 1
 total drop 2 1
-total drop 3 0
 total pause 2
 total resume 2
 ";
@@ -149,7 +155,7 @@ fn a_summary_of_reports_alone() {
     let ran = replay(&["--summary", "--only", "reports", "--from", "7"]);
     let reports = "7 drop 0 2\n7 drop 1 1\n7 pause 1\n7 pause 9\n";
     let replies: String = (0..12).map(|reply| format!("total reply {reply} 0\n")).collect();
-    let totals = "total drop 1 1\ntotal drop 2 1\ntotal drop 3 0\ntotal pause 2\ntotal resume 0\n";
+    let totals = "total drop 1 1\ntotal drop 2 1\ntotal pause 2\ntotal resume 0\n";
     assert_eq!(ran.out, tabs(&format!("{reports}{replies}{totals}")));
 }
 
@@ -157,7 +163,7 @@ fn a_summary_of_reports_alone() {
 fn a_summary_has_all_its_lines_where_nothing_is_shown() {
     let nothing = |kinds: &[&str]| -> String {
         let replies = (0..12).map(|reply| format!("reply {reply}"));
-        let all = replies.chain(["drop 1", "drop 2", "drop 3", "pause", "resume"].map(str::to_string));
+        let all = replies.chain(["drop 1", "drop 2", "pause", "resume"].map(str::to_string));
         all.chain(kinds.iter().map(|kind| kind.to_string())).map(|kind| format!("total {kind} 0\n")).collect()
     };
     check(&["--summary", "--from", "9"], &nothing(&[]));
@@ -383,7 +389,9 @@ fn help_runs_nothing() {
     for option in ["--from", "--to", "--only", "--fates", "--calls", "--words", "--summary", "--help"] {
         assert!(second(&["replay", "--help"]).out.contains(&format!("\n{option} ")), "{option}");
     }
-    for option in ["--link", "--from", "--to", "--destination", "--circuit", "--lost", "--changeovers", "--help"] {
+    for option in
+        ["--link", "--from", "--to", "--destination", "--circuit", "--lost", "--twice", "--changeovers", "--help"]
+    {
         assert!(second(&["trace", "--help"]).out.contains(&format!("\n{option} ")), "{option}");
     }
 }

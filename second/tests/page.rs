@@ -26,15 +26,17 @@ fn rows(heading: &str) -> Vec<(u8, Option<String>)> {
 #[test]
 fn replies_in_words() {
     use Reply::*;
-    let replies = [Done, OutOfRange, NotConfigured, Malformed, ForeignNetwork, WrongState, WrongNumber, UserStoreFull,
-        ManagementStoreFull, Unreachable, NumbersUsedUp, FitsNothing];
+    let replies = [
+        Done, OutOfRange, NotConfigured, Malformed, ForeignNetwork, WrongState, WrongNumber, UserStoreFull,
+        ManagementStoreFull, Unreachable, NumbersUsedUp, FitsNothing,
+    ];
     let ours: Vec<_> = replies.map(|reply| (reply as u8, words::of_reply(reply).map(str::to_string))).into();
     assert_eq!(rows("| Reply | In words |"), ours);
 }
 
 #[test]
 fn reasons_and_faults_in_words() {
-    let reasons: Vec<_> = (1..=3).map(|reason| (reason, Some(words::of_reason(reason).to_string()))).collect();
+    let reasons: Vec<_> = (1..=2).map(|reason| (reason, Some(words::of_reason(reason).to_string()))).collect();
     assert_eq!(rows("| Reason of a drop | In words |"), reasons);
     let faults = [20, 21, 22, 23, 24, 25, 30].map(|fault| (fault, Some(words::of_fault(fault).to_string())));
     assert_eq!(rows("| Fault | In words |"), faults);

@@ -56,60 +56,80 @@ fn loaded(rest: &str) -> String {
 
 #[test]
 fn held_at_the_end() {
-    check(&[], LOADED, "
+    check(
+        &[],
+        LOADED,
+        "
 0|3|2|9|0|circuit 300 IAM|sent on 0 as 0 at 10, not acknowledged
 1|4|2|9|1|circuit 300 REL|sent on 0 as 1 at 11, not acknowledged
 2|5|2|9|2|si 3|held on 0
 3|6|2|1|1|CBD|held on 0
 4|8|2|1|2|CBD|held on 0
-");
+",
+    );
 }
 
 #[test]
 fn acknowledged_as_soon_as_it_is_known() {
-    check(&[], &loaded("ack 0 1\nsend 0\nsend 0\nack 0 2\n"), "
+    check(
+        &[],
+        &loaded("ack 0 1\nsend 0\nsend 0\nack 0 2\n"),
+        "
 0|3|2|9|0|circuit 300 IAM|acknowledged on 0 as 0 at 12
 1|4|2|9|1|circuit 300 REL|acknowledged on 0 as 1 at 12
 2|5|2|9|2|si 3|acknowledged on 0 as 2 at 15
 3|6|2|1|1|CBD|sent on 0 as 3 at 14, not acknowledged
 4|8|2|1|2|CBD|held on 0
-");
+",
+    );
 }
 
 #[test]
 fn retired_moved_and_held() {
     // COO with number 0 about link 0; its COA is the message 5.
-    check(&[], &loaded("received 4 0 80024000001100\n"), "
+    check(
+        &[],
+        &loaded("received 4 0 80024000001100\n"),
+        "
 0|3|2|9|0|circuit 300 IAM|retired on 0 as 0 by 0 at 12
 1|4|2|9|1|circuit 300 REL|moved 0 to 1 at 12; held on 1
 2|5|2|9|2|si 3|moved 0 to 2 at 12; held on 2
 3|6|2|1|1|CBD|moved 0 to 1 at 12; held on 1
 4|8|2|1|2|CBD|moved 0 to 2 at 12; held on 2
 5|12|2|1|0|COA|held on 1
-");
+",
+    );
 }
 
 #[test]
 fn dropped_by_each_reason() {
-    check(&["--lost"], &loaded("failure 0\nreceived 4 0 80024000002105\n"), "
-0|3|2|9|0|circuit 300 IAM|dropped at 13: sent, and the changeover number isn't in range
-1|4|2|9|1|circuit 300 REL|dropped at 13: sent, and the changeover number isn't in range
-");
-    check(&["--lost"], &loaded("failure 0\nt2 0\n"), "
+    check(
+        &["--lost"],
+        &loaded("failure 0\nreceived 4 0 800240000022\n"),
+        "
 0|3|2|9|0|circuit 300 IAM|dropped at 13: sent, and what the far end took isn't known
 1|4|2|9|1|circuit 300 REL|dropped at 13: sent, and what the far end took isn't known
-");
-    check(&[], "service 0\nhost 85018000002c0101\nfailure 0\nt1 0\n", "
+",
+    );
+    check(
+        &[],
+        "service 0\nhost 85018000002c0101\nfailure 0\nt1 0\n",
+        "
 0|2|2|1|0|circuit 300 IAM|dropped at 4: no route
-");
+",
+    );
 }
 
 #[test]
 fn a_message_in_transit_and_one_with_si_0() {
-    check(&[], "service 0\nservice 4\nreceived 4 0 850940018013f010\nreceived 4 1 80094001800102030405060708090a\n", "
+    check(
+        &[],
+        "service 0\nservice 4\nreceived 4 0 850940018013f010\nreceived 4 1 80094001800102030405060708090a\n",
+        "
 0|3|5|9|8|circuit 19 RLC|held on 0
 1|4|5|9|8|si 0 0102030405060708|held on 0
-");
+",
+    );
 }
 
 #[test]
@@ -122,19 +142,129 @@ received 4 1 8002400000540900
 host 8509800000b0
 host 8509800010b1
 ";
-    check(&[], apart, "
+    check(
+        &[],
+        apart,
+        "
 0|5|2|9|0|si 5 b0|held apart
 1|6|2|9|1|si 5 b1|held apart
-");
-    check(&[], &format!("{apart}t6 9\nsend 0\nack 0 0\n"), "
+",
+    );
+    check(
+        &[],
+        &format!("{apart}t6 9\nsend 0\nack 0 0\n"),
+        "
 0|5|2|9|0|si 5 b0|moved apart to 0 at 7; acknowledged on 0 as 0 at 9
 1|6|2|9|1|si 5 b1|moved apart to 0 at 7; held on 0
-");
+",
+    );
     check(&["--link", "0", "--lost"], &format!("{apart}t6 9\n"), "");
     // TFP about 9 from both sides before T6 ends.
-    check(&["--lost"], &format!("{apart}received 4 2 8002400000140900\nreceived 4 3 8002c00000140900\nt6 9\n"), "
+    check(
+        &["--lost"],
+        &format!("{apart}received 4 2 8002400000140900\nreceived 4 3 8002c00000140900\nt6 9\n"),
+        "
 0|5|2|9|0|si 5 b0|dropped at 9: no route
 1|6|2|9|1|si 5 b1|dropped at 9: no route
+",
+    );
+}
+
+#[test]
+fn what_may_arrive_twice() {
+    let moved = "
+0|3|2|9|0|circuit 300 IAM|sent on 0 as 0, moved to 1 at 13, may arrive twice; held on 1
+1|4|2|9|1|circuit 300 REL|sent on 0 as 1, moved to 1 at 13, may arrive twice; held on 1
+2|5|2|9|2|si 3|moved 0 to 2 at 13; held on 2
+3|6|2|1|1|CBD|moved 0 to 1 at 13; held on 1
+4|8|2|1|2|CBD|moved 0 to 2 at 13; held on 2
+5|12|2|1|0|COO|held on 1
+";
+    for end in ["t2 0", "received 4 0 80024000002102", "received 4 0 8002400000217e"] {
+        check(&[], &loaded(&format!("failure 0\n{end}\n")), moved);
+    }
+    // F is in range, so the far end says that it has none of those that move.
+    check(&["--twice"], &loaded("failure 0\nreceived 4 0 8002400000217f\n"), "");
+    // By level 2 the far end has the first, which is acknowledged and doesn't move.
+    check(
+        &["--twice"],
+        &loaded("ack 0 0\nfailure 0\nt2 0\n"),
+        "
+1|4|2|9|1|circuit 300 REL|sent on 0 as 1, moved to 1 at 14, may arrive twice; held on 1
+",
+    );
+}
+
+#[test]
+fn a_management_message_may_arrive_twice() {
+    // Acknowledged up to 1, then the message 2 and the first CBD are sent.
+    check(
+        &["--twice", "--destination", "1"],
+        &loaded("ack 0 1\nsend 0\nsend 0\nfailure 0\nt2 0\nsend 1\nsend 1\nack 1 1\n"),
+        "
+3|6|2|1|1|CBD|sent on 0 as 3, moved to 1 at 16, may arrive twice; acknowledged on 1 as 1 at 19
+",
+    );
+}
+
+/// Behind link 0 there is a way to 9 and none to 1; both messages are sent.
+#[test]
+fn what_is_dropped_for_want_of_a_route_arrives_at_most_once() {
+    let record = "service 0\nservice 4\nhost 8509800000\nhost 8501800010\nsend 0\nsend 0\nfailure 0\nt1 0\n";
+    check(
+        &[],
+        record,
+        "
+1|4|2|1|1|si 5|dropped at 8: no route
+0|3|2|9|0|si 5|sent on 0 as 0, moved to 4 at 8, may arrive twice; held on 4
+",
+    );
+    check(&["--lost"], record, "1|4|2|1|1|si 5|dropped at 8: no route\n");
+    check(&["--twice"], record, "0|3|2|9|0|si 5|sent on 0 as 0, moved to 4 at 8, may arrive twice; held on 4\n");
+    changeovers(
+        record,
+        "link 0: failed at line 7, changed over at line 8 by T1; \
+        0 retired, 1 moved (1 to link 4), 1 dropped, 1 may arrive twice\n",
+    );
+    // Then the other way goes too: what moved before may have arrived, and is lost where it stood last.
+    let record = format!("{record}send 4\nfailure 4\nt1 4\n");
+    check(
+        &["--lost", "--twice"],
+        &record,
+        "
+0|3|2|9|0|si 5|sent on 0 as 0, moved to 4 at 8, may arrive twice; dropped at 11: no route
+",
+    );
+}
+
+#[test]
+fn twice_on_two_links() {
+    // Two ways to 9: over link 0, then over 4, then over 0 again; sent on each.
+    let record = "
+service 0
+service 4
+host 8509800000a0
+send 0
+failure 0
+t1 0
+service 0
+t3 0
+send 4
+failure 4
+t1 4
+send 0
+";
+    check(
+        &["--twice", "--lost"],
+        record,
+        "
+0|3|2|9|0|si 5 a0|sent on 0 as 0, moved to 4 at 6, may arrive twice; \
+sent on 4 as 0, moved to 0 at 11, may arrive twice; sent on 0 as 0 at 12, not acknowledged
+",
+    );
+    changeovers(record, "
+link 0: failed at line 5, changed over at line 6 by T1; 0 retired, 1 moved (1 to link 4), 0 dropped, 1 may arrive twice
+link 4: failed at line 10, changed over at line 11 by T1; 0 retired, 1 moved (1 to link 0), 0 dropped, 1 may arrive twice
 ");
 }
 
@@ -144,10 +274,20 @@ host 8509800010b1
 fn more_than_eight_moves() {
     let turn = "failure 0\nt1 0\nservice 0\nt3 0\nfailure 4\nt1 4\nservice 4\n";
     let record = format!("service 0\nservice 4\nhost 8509800000a0\n{}", turn.repeat(5));
-    check(&[], &record, "
+    check(
+        &[],
+        &record,
+        "
 0|3|2|9|0|si 5 a0|moved 2 times before; moved 0 to 4 at 12; moved 4 to 0 at 16; moved 0 to 4 at 19; \
 moved 4 to 0 at 23; moved 0 to 4 at 26; moved 4 to 0 at 30; moved 0 to 4 at 33; moved 4 to 0 at 37; held on 0
-");
+",
+    );
+    check(&["--twice"], &record, "");
+    // Sent before the first of its moves, which isn't told.
+    let record = format!("service 0\nservice 4\nhost 8509800000a0\nsend 0\n{}", turn.repeat(5));
+    let ran = trace(&["--twice"], &record);
+    assert!(ran.out.starts_with(&bars("0|3|2|9|0|si 5 a0|moved 2 times before; moved 0 to 4 at 13;")), "{}", ran.out);
+    assert!(!ran.out.contains("twice"), "{}", ran.out);
 }
 
 // Options.
@@ -155,10 +295,14 @@ moved 4 to 0 at 23; moved 0 to 4 at 26; moved 4 to 0 at 30; moved 0 to 4 at 33; 
 #[test]
 fn by_link() {
     let record = loaded("received 4 0 80024000001100\n");
-    check(&["--link", "2"], &record, "
+    check(
+        &["--link", "2"],
+        &record,
+        "
 2|5|2|9|2|si 3|moved 0 to 2 at 12; held on 2
 4|8|2|1|2|CBD|moved 0 to 2 at 12; held on 2
-");
+",
+    );
     let all = trace(&[], &record).out;
     let but_the_answer: String = all.lines().take(5).map(|line| format!("{line}\n")).collect();
     assert_eq!(trace(&["--link", "0"], &record).out, but_the_answer);
@@ -167,11 +311,15 @@ fn by_link() {
 
 #[test]
 fn by_line() {
-    check(&["--from", "4", "--to", "6"], LOADED, "
+    check(
+        &["--from", "4", "--to", "6"],
+        LOADED,
+        "
 1|4|2|9|1|circuit 300 REL|sent on 0 as 1 at 11, not acknowledged
 2|5|2|9|2|si 3|held on 0
 3|6|2|1|1|CBD|held on 0
-");
+",
+    );
     check(&["--from", "8"], LOADED, "4|8|2|1|2|CBD|held on 0\n");
     // All lines are run: the message is sent behind the last line asked for.
     check(&["--to", "3"], LOADED, "0|3|2|9|0|circuit 300 IAM|sent on 0 as 0 at 10, not acknowledged\n");
@@ -179,13 +327,21 @@ fn by_line() {
 
 #[test]
 fn by_destination_and_circuit() {
-    check(&["--destination", "1"], LOADED, "
+    check(
+        &["--destination", "1"],
+        LOADED,
+        "
 3|6|2|1|1|CBD|held on 0
 4|8|2|1|2|CBD|held on 0
-");
-    check(&["--circuit", "300", "--from", "4"], LOADED, "
+",
+    );
+    check(
+        &["--circuit", "300", "--from", "4"],
+        LOADED,
+        "
 1|4|2|9|1|circuit 300 REL|sent on 0 as 1 at 11, not acknowledged
-");
+",
+    );
     check(&["--circuit", "44"], LOADED, "");
     check(&["--destination", "9", "--link", "1"], LOADED, "");
 }
@@ -200,16 +356,24 @@ host 86018000002c0101
 host 85018000002c01
 host 85018000002cf1ff
 ";
-    check(&[], record, "
+    check(
+        &[],
+        record,
+        "
 0|2|2|1|0|circuit 300 IAM|held on 0
 1|3|2|1|0|si 6 2c0101|held on 0
 2|4|2|1|0|si 5 2c01|held on 0
 3|5|2|1|0|circuit 300 ff|held on 0
-");
-    check(&["--circuit", "300"], record, "
+",
+    );
+    check(
+        &["--circuit", "300"],
+        record,
+        "
 0|2|2|1|0|circuit 300 IAM|held on 0
 3|5|2|1|0|circuit 300 ff|held on 0
-");
+",
+    );
 }
 
 #[test]
@@ -225,31 +389,47 @@ host 8509800030
 send 0
 send 0
 ";
-    check(&[], &format!("{record}received 4 0 80024000001100\n"), "
+    check(
+        &[],
+        &format!("{record}received 4 0 80024000001100\n"),
+        "
 0|3|2|9|0|si 5|retired on 0 as 0 by 0 at 9
 1|4|2|1|1|si 5|dropped at 9: no route
 2|5|2|1|2|si 5|dropped at 9: no route
 3|6|2|9|3|si 5|moved 0 to 4 at 9; held on 4
-");
+",
+    );
 }
 
 #[test]
 fn lost_is_dropped_or_sent_and_not_known_to_be_taken() {
-    check(&["--lost"], LOADED, "
+    check(
+        &["--lost"],
+        LOADED,
+        "
 0|3|2|9|0|circuit 300 IAM|sent on 0 as 0 at 10, not acknowledged
 1|4|2|9|1|circuit 300 REL|sent on 0 as 1 at 11, not acknowledged
-");
+",
+    );
     check(&["--lost"], &loaded("ack 0 0\nfailure 0\nreceived 4 0 80024000002100\n"), "");
     // Sent before it moved, and not since; then sent there too.
     let moved = loaded("received 4 0 80024000001100\n");
     check(&["--lost"], &moved, "");
-    check(&["--lost"], &format!("{moved}send 2\n"), "
+    check(
+        &["--lost"],
+        &format!("{moved}send 2\n"),
+        "
 2|5|2|9|2|si 3|moved 0 to 2 at 12; sent on 2 as 0 at 13, not acknowledged
-");
+",
+    );
     // The link has failed, and the changeover hasn't ended.
-    check(&["--lost", "--circuit", "300", "--from", "4"], &loaded("failure 0\n"), "
+    check(
+        &["--lost", "--circuit", "300", "--from", "4"],
+        &loaded("failure 0\n"),
+        "
 1|4|2|9|1|circuit 300 REL|sent on 0 as 1 at 11, not acknowledged
-");
+",
+    );
 }
 
 // Changeovers.
@@ -271,29 +451,60 @@ fn coo_on_an_open_link() {
 
 #[test]
 fn coo_crossing_ours() {
-    changeovers(&loaded("failure 0\nreceived 4 0 8002400000117f\n"),
+    changeovers(
+        &loaded("failure 0\nreceived 4 0 8002400000117f\n"),
         "link 0: failed at line 12, changed over at line 13 by COO with number 127; \
-        0 retired, 5 moved (3 to link 1, 2 to link 2), 0 dropped\n");
+        0 retired, 5 moved (3 to link 1, 2 to link 2), 0 dropped\n",
+    );
 }
 
 #[test]
 fn coa_in_range_and_not() {
-    changeovers(&loaded("failure 0\nreceived 4 0 80024000002101\n"),
+    changeovers(
+        &loaded("failure 0\nreceived 4 0 80024000002101\n"),
         "link 0: failed at line 12, changed over at line 13 by COA with number 1; \
-        2 retired, 3 moved (1 to link 1, 2 to link 2), 0 dropped\n");
-    changeovers(&loaded("failure 0\nreceived 4 0 80024000002102\n"),
-        "link 0: failed at line 12, changed over at line 13 by COA with number 2; \
-        0 retired, 3 moved (1 to link 1, 2 to link 2), 2 dropped\n");
+        2 retired, 3 moved (1 to link 1, 2 to link 2), 0 dropped\n",
+    );
+    changeovers(
+        &loaded("failure 0\nreceived 4 0 80024000002102\n"),
+        "link 0: failed at line 12, changed over at line 13 by COA with number 2 not in range; \
+        0 retired, 5 moved (3 to link 1, 2 to link 2), 0 dropped, 2 may arrive twice\n",
+    );
+    // With its spare bit set, on an open link; and on one that has nothing in its queue.
+    changeovers(
+        &loaded("received 4 0 80024000001182\n"),
+        "link 0: changed over at line 12 by COO with number 2 not in range; \
+        0 retired, 5 moved (3 to link 1, 2 to link 2), 0 dropped, 2 may arrive twice\n",
+    );
+    changeovers(
+        "service 0\nservice 4\nreceived 4 0 80024000001100\n",
+        "link 0: changed over at line 3 by COO with number 0 not in range; 0 retired, 0 moved, 0 dropped\n",
+    );
 }
 
 #[test]
 fn without_a_number() {
     let end = "0 retired, 3 moved (1 to link 1, 2 to link 2), 2 dropped\n";
     changeovers(&loaded("received 4 0 800240000012\n"), &format!("link 0: changed over at line 12 by ECO; {end}"));
-    for (line, what) in [("received 4 0 800240000012", "ECO"), ("received 4 0 800240000022", "ECA"), ("t2 0", "T2")] {
+    for (line, what) in [("received 4 0 800240000012", "ECO"), ("received 4 0 800240000022", "ECA")] {
         let expected = format!("link 0: failed at line 12, changed over at line 13 by {what}; {end}");
         changeovers(&loaded(&format!("failure 0\n{line}\n")), &expected);
     }
+}
+
+#[test]
+fn t2_and_nothing_sent() {
+    changeovers(
+        &loaded("failure 0\nt2 0\n"),
+        "link 0: failed at line 12, changed over at line 13 by T2; \
+        0 retired, 5 moved (3 to link 1, 2 to link 2), 0 dropped, 2 may arrive twice\n",
+    );
+    // All that was sent is acknowledged.
+    changeovers(
+        &loaded("ack 0 1\nfailure 0\nt2 0\n"),
+        "link 0: failed at line 13, changed over at line 14 by T2; \
+        0 retired, 3 moved (1 to link 1, 2 to link 2), 0 dropped\n",
+    );
 }
 
 /// No link but 0 leads to point 1, so its failure starts T1.
@@ -309,19 +520,27 @@ failure 0
 
 #[test]
 fn t1_and_what_ends_it_before() {
-    changeovers(&format!("{ALONE}t1 0\n"),
-        "link 0: failed at line 7, changed over at line 8 by T1; 0 retired, 2 moved (2 to link 4), 1 dropped\n");
-    changeovers(&format!("{ALONE}received 4 0 80024000001100\n"),
+    changeovers(
+        &format!("{ALONE}t1 0\n"),
+        "link 0: failed at line 7, changed over at line 8 by T1; \
+        0 retired, 3 moved (3 to link 4), 0 dropped, 1 may arrive twice\n",
+    );
+    changeovers(
+        &format!("{ALONE}received 4 0 80024000001100\n"),
         "link 0: failed at line 7, changed over at line 8 by COO with number 0; \
-        1 retired, 2 moved (2 to link 4), 0 dropped\n");
+        1 retired, 2 moved (2 to link 4), 0 dropped\n",
+    );
 }
 
 #[test]
 fn no_route_and_an_empty_queue() {
-    changeovers("service 0\nhost 8501800000\nfailure 0\nt1 0\nservice 0\nfailure 0\nt1 0\n", "
+    changeovers(
+        "service 0\nhost 8501800000\nfailure 0\nt1 0\nservice 0\nfailure 0\nt1 0\n",
+        "
 link 0: failed at line 3, changed over at line 4 by T1; 0 retired, 0 moved, 1 dropped
 link 0: failed at line 6, changed over at line 7 by T1; 0 retired, 0 moved, 0 dropped
-");
+",
+    );
 }
 
 /// Link 1 waits with one message.
@@ -349,10 +568,14 @@ fn a_waiting_link() {
 fn in_the_order_in_which_they_went_out() {
     let record = loaded("failure 0\nfailure 1\nt2 1\nt2 0\n");
     // Link 1 has the COO of link 0, unsent, which moves to link 2 and the messages of link 0 then too.
-    changeovers(&record, "
+    changeovers(
+        &record,
+        "
 link 1: failed at line 13, changed over at line 14 by T2; 0 retired, 1 moved (1 to link 2), 0 dropped
-link 0: failed at line 12, changed over at line 15 by T2; 0 retired, 3 moved (3 to link 2), 2 dropped
-");
+link 0: failed at line 12, changed over at line 15 by T2; \
+0 retired, 5 moved (5 to link 2), 0 dropped, 2 may arrive twice
+",
+    );
 }
 
 #[test]

@@ -77,9 +77,7 @@ const WRITTEN: &str = "
 22 reply 0
 23 reply 5
 24 reply 0
-24 drop 3 2
-24 drop 4 2
-24 drop 2 2
+24 drop 4 1
 24 pause 1
 25 reply 9
 ";
@@ -94,7 +92,7 @@ fn as_worked_by_hand() {
     assert_eq!(output, with_tabs(WRITTEN));
 }
 
-/// What each line says of messages, behind its reply; no line has both fates and reports.
+/// What each line says of messages, behind its reply and before its reports.
 const FATES: &str = "
 3 queued 0 0 CBD
 4 sent 0 0 0
@@ -110,6 +108,8 @@ const FATES: &str = "
 14 sent 4 1 1
 15 moved 2 0 1
 16 sent 2 1 2
+24 moved 3 1 4
+24 moved 2 1 4
 ";
 
 #[test]
@@ -118,8 +118,9 @@ fn fates_as_worked_by_hand() {
     let output = replay_shown(with_tabs(CONFIGURATION).as_bytes(), with_tabs(RECORD).as_bytes(), &shown).text;
     let (plain, fates) = (with_tabs(WRITTEN), with_tabs(FATES));
     let number = |line: &str| line.split('\t').next().unwrap().parse::<usize>().unwrap();
-    let mut expected: Vec<&str> = plain.lines().chain(fates.lines()).collect();
-    // Stable, so that the fates of a line stand behind its reply.
+    let (replies, reports): (Vec<&str>, Vec<&str>) = plain.lines().partition(|line| line.contains("\treply\t"));
+    let mut expected: Vec<&str> = replies.into_iter().chain(fates.lines()).chain(reports).collect();
+    // Stable, so that of each line the reply comes first, then the fates, then the reports.
     expected.sort_by_key(|line| number(line));
     assert_eq!(output.lines().collect::<Vec<_>>(), expected);
 }
@@ -129,16 +130,20 @@ fn traced_as_worked_by_hand() {
     let of = |asked: &Asked| trace(with_tabs(CONFIGURATION).as_bytes(), with_tabs(RECORD).as_bytes(), asked).text;
     let expected = "0|3|2|1|1|CBD|acknowledged on 0 as 0 at 11
 1|6|2|9|0|si 5 a0|acknowledged on 0 as 1 at 11
-3|8|2|9|1|si 5 a1|dropped at 24: sent, and what the far end took isn't known
-4|12|2|1|0|COO|dropped at 24: sent, and what the far end took isn't known
-2|7|2|9|2|si 5 a2|moved 0 to 1 at 15; dropped at 24: sent, and what the far end took isn't known
+4|12|2|1|0|COO|dropped at 24: no route
+2|7|2|9|2|si 5 a2|moved 0 to 1 at 15; sent on 1 as 2, moved to 4 at 24, may arrive twice; held on 4
+3|8|2|9|1|si 5 a1|sent on 1 as 0, moved to 4 at 24, may arrive twice; held on 4
 ";
     assert_eq!(of(&Asked::default()), expected.replace('|', "\t"));
     let changeovers = Asked { changeovers: true, ..Asked::default() };
-    assert_eq!(of(&changeovers), "link 0: failed at line 12, changed over at line 15 by COA with number 1; \
+    assert_eq!(
+        of(&changeovers),
+        "link 0: failed at line 12, changed over at line 15 by COA with number 1; \
         0 retired, 1 moved (1 to link 1), 0 dropped
-link 1: failed at line 22, changed over at line 24 by T1; 0 retired, 0 moved, 3 dropped
-");
+link 1: failed at line 22, changed over at line 24 by T1; \
+        0 retired, 2 moved (2 to link 4), 1 dropped, 2 may arrive twice
+"
+    );
 }
 
 #[test]

@@ -55,8 +55,7 @@ pub fn file(text: &str) -> File {
 }
 
 pub fn second(words: &[&str]) -> Ran {
-    let Output { stdout, stderr, status } =
-        Command::new(env!("CARGO_BIN_EXE_second")).args(words).output().unwrap();
+    let Output { stdout, stderr, status } = Command::new(env!("CARGO_BIN_EXE_second")).args(words).output().unwrap();
     let text = |octets| String::from_utf8(octets).unwrap();
     Ran { out: text(stdout), err: text(stderr), status: status.code().unwrap() }
 }
