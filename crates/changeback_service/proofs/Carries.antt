@@ -24,7 +24,7 @@ use Rattle.changeback_pairs.specs.declared.Sources.{Sources}
 use Rattle.changeback_service.specs.InService.{declares, comesAs}
 
 -- the state of a link, as the chooser reads it and as its record says it
-state-read : (links : List ℕ) (link : ℕ) → stateOf links link ≡ recordAt links link .state
+pub state-read : (links : List ℕ) (link : ℕ) → stateOf links link ≡ recordAt links link .state
 state-read links link = cases (ltb link 32) (λ e. simp (e, add-zero)) (λ e. simp e)
 
 -- whether a link serves, by its state

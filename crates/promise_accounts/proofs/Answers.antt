@@ -1,5 +1,5 @@
--- The answer to a management message is queued, with the next number at the end of its path's queue: the areas stay regular, and all that
--- was queued stays before it.
+-- A message that is queued has the next number, at the end of its queue, and one that the node makes at the end of its path's. So has the
+-- answer to a management message: the areas stay regular, and all that was queued stays before it.
 -- Assumes nothing.
 use mathlib.Core.Path.{_≡_, refl, sym, ap, _∙_}
 use mathlib.Core.Bool.{Bool, true, false, cond, _&&_, and-eq-true-iff}
@@ -8,7 +8,8 @@ use Prim.Native.Nat.{ℕ, _≤_, _<_}
 use native.Mathlib.Omega.{arith}
 use lib.Dec.{eqb, ltb}
 use lib.ListN.{take}
-use borrow.Author.Tests.{ltb-true, eqb-true, eqb-false, eq-eqb, ne-eqb}
+use borrow.Author.Tests.{ltb-true, eqb-true, eqb-false, ne-eqb}
+use borrow.Table.Steps.{cases}
 use Rattle.plan.specs.declared.data.Plan.{Plan}
 use Rattle.area_slots.specs.SlotRows.{withSlot}
 use Rattle.area_slots.specs.declared.Slot.{Slot}
@@ -20,39 +21,28 @@ use Rattle.queue_store.specs.Sound.{Sound}
 use Rattle.wire_messages.specs.Management.{headingOf, fieldOf}
 use Rattle.replies.specs.Areas.{Areas}
 use Rattle.route_choice.specs.Which.{none}
-use Rattle.queue_heads.specs.Head.{Queues, both, headOf}
-use Rattle.queue_joining.specs.Queue.{nextOf, managementReply, managementQueues, rowsWithManagement}
+use Rattle.queue_heads.specs.Head.{Queues, both, headOf, moved}
+use Rattle.queue_joining.specs.Queue.{nextOf, managementReply, managementQueues, rowsWithManagement, withManagement}
+use Rattle.management_making.specs.declared.Draft.{Draft}
 use Rattle.management_making.specs.Make.{Held, pathOf, hasPath, isMade, made, heldIn, withHeld, withMade}
 use Rattle.management_steps.specs.declared.Step.{Step}
-use Rattle.management_steps.specs.Step.{answer, draft}
 use Rattle.management_orders.specs.Carry.{withAnswer}
 use Rattle.promise_runs.proofs.Outcomes.{RegularIn, by-test}
 use Rattle.promise_runs.proofs.KeepsMaking.{made-regular}
 use Rattle.promise_ledger.specs.Held.{arrivalOf, numbers}
 use Rattle.promise_ledger.proofs.Free.{slot-below}
 use Rattle.promise_ledger.proofs.Joined.{arrival-other, management-found}
-use Rattle.promise_ledger.proofs.Behind.{joined-there, management-other}
+use Rattle.promise_ledger.proofs.Behind.{joined-there, joined-other, management-other}
 use Rattle.promise_accounts.specs.Gone.{queueOf}
 use Rattle.promise_accounts.proofs.Never.{way-never}
 use Rattle.promise_accounts.proofs.EvenMaking.{joined, made-more, made-before}
 
--- what holds of a message and of what is new by it, by the tests that decide whether it is made, and where
-by-made : {A : Type 0} (P : A → List ℕ → Type 0) (path place there : Bool) (with without : A) (new : List ℕ)
-    → (path ≡ true → place ≡ true → there ≡ true → P with new)
-    → (path ≡ true → place ≡ true → there ≡ false → P with [])
-    → (path ≡ true → place ≡ false → P with [])
-    → (path ≡ false → P without [])
-    → P (cond path with without) (cond ((path && place) && there) new [])
-by-made P true true true with without new p q r s = p refl refl refl
-by-made P true true false with without new p q r s = q refl refl refl
-by-made P true false there with without new p q r s = r refl refl
-by-made P false place there with without new p q r s = s refl
-
+-- what holds of a message and of what is new by it, by a test that it is queued by, and whether it is there
 by-answer : {A : Type 0} (P : A → List ℕ → Type 0) (answers made there : Bool) (with without : A) (new : List ℕ)
-    → P with (cond (made && there) new [])
+    → (answers ≡ true → P with (cond (made && there) new []))
     → P without []
     → P (cond answers with without) (cond ((answers && made) && there) new [])
-by-answer P true made there with without new p q = p
+by-answer P true made there with without new p q = p refl
 by-answer P false made there with without new p q = q
 
 -- nothing is new where the tests exclude each other
@@ -60,42 +50,99 @@ pub none-there : (made there : Bool) (new : List ℕ) → (made ≡ true → the
 none-there true there new other = ap (λ (t : Bool). cond t new []) (other refl)
 none-there false there new other = refl
 
--- a management message that is queued has the next number, at the end of its queue; one that isn't leaves every queue
+-- a slot that was free is put at the end of a queue, with a row that has a number: that queue has the number behind what it had
+module _
+    (rows octets : List ℕ)
+    (queues : Queues)
+    (sound : Sound (queues .spans) (queues .rings) rows octets)
+    (free : ℕ)
+    (found : headOf queues free .found ≡ true)
+    (empty : 33 ≤ free)
+    (after : List ℕ)
+    (others : (other : ℕ) → (other ≡ headOf queues free .slot → ⊥) → arrivalOf after other ≡ arrivalOf rows other)
+    (next : ℕ)
+    (number : arrivalOf after (headOf queues free .slot) ≡ next)
+    (to : ℕ)
+    (h : to < 33) where
+  pub joined-each : (ring : ℕ) → ring < 33
+      → numbers after (moved queues free to) ring ≡ numbers rows queues ring ++ cond (eqb ring to) (next ∷ []) []
+  joined-each ring l =
+      cases (eqb ring to)
+      (λ e.
+      let same = eqb-true ring to e in
+      simp e
+      (ap (numbers after (moved queues free to)) same
+      ∙ joined-there rows octets queues sound free found empty after others to h
+      ∙ ap (λ (n : ℕ). numbers rows queues to ++ (n ∷ [])) number
+      ∙ ap (λ (r : ℕ). numbers rows queues r ++ (next ∷ [])) (sym same)))
+      (λ e.
+      simp e
+      (joined-other rows octets queues sound free found empty after others to h ring l (eqb-false ring to e)
+      ∙ sym (append-nil (numbers rows queues ring))))
+
+-- a management message that is queued has the next number, at the end of its queue; one that finds no place or number leaves every queue
 module _
     (rows octets : List ℕ)
     (queues : Queues)
     (sound : Sound (queues .spans) (queues .rings) rows octets)
     (arrivals : List ℕ)
-    (ring : ℕ) where
-  module _ (h : ring < 33) (heading point slc field : ℕ) (done : managementReply (queues .spans) arrivals ≡ 0) where
-    abbrev slot : ℕ
-    slot = headOf queues 34 .slot
+    (to : ℕ)
+    (h : to < 33)
+    (heading point slc field : ℕ) where
+  abbrev slot : ℕ
+  slot = headOf queues 34 .slot
 
-    abbrev row : Slot
-    row = Message.managementRow (nextOf arrivals) heading point slc field
+  abbrev row : Slot
+  row = Message.managementRow (nextOf arrivals) heading point slc field
 
-    found : headOf queues 34 .found ≡ true
-    found = management-found (λ n. true) rows octets queues sound arrivals done
+  pub management-joins : (ring : ℕ) → ring < 33
+      → numbers (rowsWithManagement queues arrivals rows heading point slc field) (managementQueues queues arrivals to) ring
+      ≡ numbers rows queues ring ++ cond (eqb (managementReply (queues .spans) arrivals) 0 && eqb ring to) (nextOf arrivals ∷ []) []
+  unfolding managementQueues rowsWithManagement managementRows
+  management-joins ring l =
+      let reply = managementReply (queues .spans) arrivals in
+      cases (eqb reply 0)
+      (λ e.
+      let found = management-found (λ n. true) rows octets queues sound arrivals (eqb-true reply 0 e) in
+      let number =
+      ap (λ (s : Slot). s .arrival)
+      (management-read rows slot (nextOf arrivals) heading point slc field (sound .rowsLong) (slot-below rows octets queues sound 34 found))
+      in
+      simp e
+      (joined-each rows octets queues sound 34 found (omega arith) (withSlot rows slot row) (arrival-other rows slot row) (nextOf arrivals) number to h
+      ring
+      l))
+      (λ e. simp (e, append-nil (numbers rows queues ring)))
 
-    number-is : arrivalOf (withSlot rows slot row) slot ≡ nextOf arrivals
-    unfolding managementRows
-    number-is =
-        ap (λ (s : Slot). s .arrival)
-        (management-read rows slot (nextOf arrivals) heading point slc field (sound .rowsLong) (slot-below rows octets queues sound 34 found))
-
-    pub management-there : numbers (rowsWithManagement queues arrivals rows heading point slc field) (managementQueues queues arrivals ring) ring
-        ≡ numbers rows queues ring ++ (nextOf arrivals ∷ [])
-    unfolding managementQueues rowsWithManagement managementRows
-    management-there =
-        simp (eq-eqb (managementReply (queues .spans) arrivals) 0 done)
-        (joined-there rows octets queues sound 34 found (omega arith) (withSlot rows slot row) (arrival-other rows slot row) ring h
-        ∙ ap (λ (n : ℕ). numbers rows queues ring ++ (n ∷ [])) number-is)
-
-  pub management-refused : (heading point slc field : ℕ) → eqb (managementReply (queues .spans) arrivals) 0 ≡ false → (link : ℕ)
-      → numbers (rowsWithManagement queues arrivals rows heading point slc field) (managementQueues queues arrivals ring) link
-      ≡ numbers rows queues link
-  unfolding managementQueues rowsWithManagement
-  management-refused heading point slc field refused link = simp refused
+-- a message that is made joins the queue of its path, with the next number, where it finds a place and a number
+module _ (a : Areas) (octets : List ℕ) (sound : Sound (a .spans) (a .rings) (a .rows) octets) (plan : Plan) (draft : Draft) where
+  pub made-joined : (ring : ℕ) → ring < 33
+      → queueOf (withMade plan draft a) ring
+      ≡ queueOf a ring
+      ++ cond
+      (isMade plan (a .links) (a .marks) (a .spans) (a .arrivals) draft && eqb ring (pathOf plan (a .links) (a .marks) draft))
+      (nextOf (a .arrivals) ∷ [])
+      []
+  unfolding made isMade
+  made-joined ring l =
+      let path = pathOf plan (a .links) (a .marks) draft in
+      by-answer (λ (now : Held) (new : List ℕ). queueOf (withHeld a now) ring ≡ queueOf a ring ++ new)
+      (hasPath plan (a .links) (a .marks) draft)
+      (eqb (managementReply (a .spans) (a .arrivals)) 0)
+      (eqb ring path)
+      (withManagement path (draft .message) (draft .point) (draft .slc) (heldIn a))
+      (heldIn a)
+      (nextOf (a .arrivals) ∷ [])
+      (λ e.
+      let within = ltb-true path none e in
+      management-joins (a .rows) octets (both (a .spans) (a .rings)) sound (a .arrivals) path (omega arith)
+      (headingOf (draft .message))
+      (draft .point)
+      (draft .slc)
+      (fieldOf (draft .message))
+      ring
+      l)
+      (sym (append-nil (queueOf a ring)))
 
 -- the links, the flags and the reports are as they were, whatever the areas
 module _ (a : Areas) (plan : Plan) (step : Step) where
@@ -141,60 +188,6 @@ module _ (a : Areas) (octets : List ℕ) (regular : RegularIn a octets) (plan : 
   pub answer-reports : answered .reports ≡ a .reports
   answer-reports = left-reports a plan step
 
-  -- what a message that is made adds to a queue: the next number, if the queue is that of its path
-  abbrev madeOn : ℕ → List ℕ
-  madeOn link =
-      cond
-      (isMade plan (a .links) (a .marks) (a .spans) (a .arrivals) (step .draft) && eqb link (pathOf plan (a .links) (a .marks) (step .draft)))
-      (nextOf (a .arrivals) ∷ [])
-      []
-
-  made-joined : (link : ℕ) → link < 33 → queueOf (withMade plan (step .draft) a) link ≡ queueOf a link ++ madeOn link
-  unfolding made isMade
-  made-joined link h =
-      let path = pathOf plan (a .links) (a .marks) (step .draft) in
-      let reply = managementReply (a .spans) (a .arrivals) in
-      let alone : queueOf a link ≡ queueOf a link ++ [] = sym (append-nil (queueOf a link)) in
-      by-made (λ (now : Held) (new : List ℕ). queueOf (withHeld a now) link ≡ queueOf a link ++ new)
-      (hasPath plan (a .links) (a .marks) (step .draft))
-      (eqb reply 0)
-      (eqb link path)
-      (joined a octets regular path (headingOf (step .draft .message)) (step .draft .point) (step .draft .slc) (fieldOf (step .draft .message)))
-      (heldIn a)
-      (nextOf (a .arrivals) ∷ [])
-      (λ e done there.
-      let within = ltb-true path none e in
-      let same = eqb-true link path there in
-      ap (queueOf (withHeld a (joined a octets regular path (headingOf (step .draft .message)) (step .draft .point) (step .draft .slc) (fieldOf (step .draft .message))))) same
-      ∙ management-there (a .rows) octets (both (a .spans) (a .rings)) (regular .store) (a .arrivals) path (omega arith)
-      (headingOf (step .draft .message))
-      (step .draft .point)
-      (step .draft .slc)
-      (fieldOf (step .draft .message))
-      (eqb-true reply 0 done)
-      ∙ ap (λ (r : ℕ). queueOf a r ++ (nextOf (a .arrivals) ∷ [])) (sym same))
-      (λ e done elsewhere.
-      let within = ltb-true path none e in
-      management-other (a .rows) octets (both (a .spans) (a .rings)) (regular .store) (a .arrivals) path (omega arith)
-      (headingOf (step .draft .message))
-      (step .draft .point)
-      (step .draft .slc)
-      (fieldOf (step .draft .message))
-      link
-      h
-      (eqb-false link path elsewhere)
-      ∙ alone)
-      (λ e refused.
-      management-refused (a .rows) octets (both (a .spans) (a .rings)) (regular .store) (a .arrivals) path
-      (headingOf (step .draft .message))
-      (step .draft .point)
-      (step .draft .slc)
-      (fieldOf (step .draft .message))
-      refused
-      link
-      ∙ alone)
-      (λ e. alone)
-
   -- every queue has what it had, with the answer behind it if it is that of the answer's path
   pub answer-joined : (link : ℕ) → link < 33
       → queueOf answered link
@@ -212,7 +205,7 @@ module _ (a : Areas) (octets : List ℕ) (regular : RegularIn a octets) (plan : 
       (withMade plan (step .draft) a)
       a
       (nextOf (a .arrivals) ∷ [])
-      (made-joined link h)
+      (λ e. made-joined a octets (regular .store) plan (step .draft) link h)
       (sym (append-nil (queueOf a link)))
 
   -- no link is past the 32, so the answer isn't held apart

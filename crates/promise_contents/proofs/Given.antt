@@ -175,7 +175,7 @@ module _ (a : Areas) (octets : List ℕ) (regular : RegularIn a octets) (kinds :
         (within, simp (two .0, two .1) (moved-stands (a .rows) octets (queuesIn a) (regular .store) 34 path found (omega arith)))
 
     -- a reply that isn't 0 means that nothing is made
-    not-made : eqb (makesReply plan draft a) 0 ≡ false → makes plan draft a ≡ false
+    pub not-made : eqb (makesReply plan draft a) 0 ≡ false → makes plan draft a ≡ false
     unfolding replyOf isMade
     not-made refused =
         cases (hasPath plan (a .links) (a .marks) draft)

@@ -4,7 +4,7 @@
 use mathlib.Core.Path.{_≡_, refl, sym, subst, _∙_}
 use mathlib.Core.Bool.{Bool, true, false, cond, not, _&&_}
 use mathlib.Core.List.{List}
-use Prim.Native.Nat.{ℕ, _≤_, _<_}
+use Prim.Native.Nat.{ℕ, _≤_}
 use native.Mathlib.Omega.{arith}
 use lib.Dec.{eqb}
 use lib.ListN.{length}
@@ -31,7 +31,6 @@ use Rattle.changeover_failure.specs.Failure as Failure
 use Rattle.changeover_failure.specs.Overdue as Overdue
 use Rattle.changeover.specs.Fail.{openFailed, failed}
 use Rattle.changeover_overdue.specs.Expire as Change
-use Rattle.changeback_pairs.specs.declared.Sources.{Sources}
 use Rattle.changeback_service.specs.InService.{declares, sourcesIn, replyFirst}
 use Rattle.changeback.specs.Service.{declareReply, declared, intoService}
 use Rattle.changeback.specs.Service as Service
@@ -55,7 +54,7 @@ use Rattle.node.specs.declared.call.Event.{Event}
 use Rattle.node.specs.declared.call.Event.the-variants.{IntoService, Failure, Send, Acknowledgement, Received, FromHost, T1, T2, T3, T4, T6, T8, T10}
 use Rattle.node.specs.Memory.{Memory}
 use Rattle.node.specs.Call.{sends, acknowledges, waitEnds, t8Ends, receives, takesOver, callOf}
-use Rattle.promise_runs.proofs.Outcomes.{RegularIn, by-test, both-by-test, if-done}
+use Rattle.promise_runs.proofs.Outcomes.{RegularIn, by-test, if-done}
 use Rattle.promise_runs.proofs.KeepsMaking.{made-regular}
 use Rattle.promise_accounts.proofs.Never.{way-never}
 use Rattle.promise_accounts.proofs.EvenEnding.{sent-queued}
@@ -89,7 +88,7 @@ module _ (plan : Plan) (a : Areas) (octets : List ℕ) (regular : RegularIn a oc
       (made-gains a octets regular kinds one plan order))
 
   -- a link comes into service: with reply 0 its CBD has found a place and a number
-  declares-placed : (link : ℕ) → Service.replyOf plan a link ≡ 0 → declares (sourcesIn plan (a .links) (a .marks) link) ≡ true
+  pub declares-placed : (link : ℕ) → Service.replyOf plan a link ≡ 0 → declares (sourcesIn plan (a .links) (a .marks) link) ≡ true
       → managementReply (a .spans) (a .arrivals) ≡ 0
   unfolding Service.replyOf declareReply
   declares-placed link none there =

@@ -1,15 +1,14 @@
 -- A user message that finds a place and a number stands at the end of its queue with that number, and every other queue is as it was.
 -- Assumes nothing.
-use mathlib.Core.Path.{_≡_, sym, ap, _∙_}
+use mathlib.Core.Path.{_≡_, ap}
 use mathlib.Core.Bool.{true, false, cond}
-use mathlib.Core.List.{List, [], _∷_, _++_, append-nil}
+use mathlib.Core.List.{List, [], _∷_, _++_}
 use Prim.Native.Nat.{ℕ, _+_, _≤_, _<_}
 use native.Mathlib.Omega.{arith}
 use lib.Dec.{eqb, ltb}
 use lib.ListN.{length}
 use lib.Seq.{getD-set-same}
-use borrow.Author.Tests.{ltb-true, not-false, eqb-true, eqb-false, eq-eqb}
-use borrow.Table.Steps.{cases}
+use borrow.Author.Tests.{ltb-true, not-false, eq-eqb}
 use Rattle.constants.specs.Constants.{t6}
 use Rattle.plan.specs.declared.data.Plan.{Plan}
 use Rattle.plan.specs.Find.{placeOf}
@@ -23,45 +22,15 @@ use Rattle.queue_store.proofs.KindsApart.{taken-user}
 use Rattle.wire.specs.declared.header.Label.{Label}
 use Rattle.replies.specs.Areas.{Areas}
 use Rattle.route_choice.specs.Which.{none}
-use Rattle.queue_heads.specs.Head.{Queues, both, headOf, moved}
+use Rattle.queue_heads.specs.Head.{Queues, both, headOf}
 use Rattle.queue_joining.specs.Queue.{nextOf, counted, userReply, userQueues, rowsWithUser, userArrivals}
 use Rattle.queue_moving.specs.Move.{apart}
 use Rattle.passing_passage.specs.Passage.{linkOf, unreachable, ringBy, queued}
 use Rattle.promise_runs.proofs.Outcomes.{by-test}
 use Rattle.promise_ledger.specs.Held.{arrivalOf, numbers}
 use Rattle.promise_ledger.proofs.Joined.{user-other, user-found}
-use Rattle.promise_ledger.proofs.Behind.{joined-there, joined-other}
+use Rattle.promise_accounts.proofs.Answers.{joined-each}
 use Rattle.promise_queueing.specs.Joining.{joinsAt, joins, Joins}
-
--- a slot that was free is put at the end of a queue, with a row that has a number: that queue has the number behind what it had
-module _
-    (rows octets : List ℕ)
-    (queues : Queues)
-    (sound : Sound (queues .spans) (queues .rings) rows octets)
-    (free : ℕ)
-    (found : headOf queues free .found ≡ true)
-    (empty : 33 ≤ free)
-    (after : List ℕ)
-    (others : (other : ℕ) → (other ≡ headOf queues free .slot → ⊥) → arrivalOf after other ≡ arrivalOf rows other)
-    (next : ℕ)
-    (number : arrivalOf after (headOf queues free .slot) ≡ next)
-    (to : ℕ)
-    (h : to < 33) where
-  pub joined-each : (ring : ℕ) → ring < 33
-      → numbers after (moved queues free to) ring ≡ numbers rows queues ring ++ cond (eqb ring to) (next ∷ []) []
-  joined-each ring l =
-      cases (eqb ring to)
-      (λ e.
-      let same = eqb-true ring to e in
-      simp e
-      (ap (numbers after (moved queues free to)) same
-      ∙ joined-there rows octets queues sound free found empty after others to h
-      ∙ ap (λ (n : ℕ). numbers rows queues to ++ (n ∷ [])) number
-      ∙ ap (λ (r : ℕ). numbers rows queues r ++ (next ∷ [])) (sym same)))
-      (λ e.
-      simp e
-      (joined-other rows octets queues sound free found empty after others to h ring l (eqb-false ring to e)
-      ∙ sym (append-nil (numbers rows queues ring))))
 
 -- a number used up
 pub one-counted : (arrivals : List ℕ) → length arrivals ≡ 1 → nextOf (counted arrivals) ≡ nextOf arrivals + 1

@@ -11,19 +11,13 @@ use lib.ListN.{length}
 use borrow.Author.Tests.{ltb-true, eq-eqb, not-true}
 use Rattle.plan.specs.declared.data.Plan.{Plan}
 use Rattle.plan.proofs.Split.{both-false}
-use Rattle.area_slots.specs.declared.Slot.{Slot}
-use Rattle.queue_slots.specs.Message.{managementRows}
-use Rattle.queue_slots.specs.Message as Message
-use Rattle.queue_slots.proofs.ReadBack.{management-read}
 use Rattle.queue_store.specs.Sound.{Sound, bit}
 use Rattle.wire.specs.declared.header.Label.{Label}
 use Rattle.replies.specs.Reply.{first}
-use Rattle.wire_messages.specs.Management.{headingOf, fieldOf}
 use Rattle.replies.specs.Areas.{Areas}
-use Rattle.queue_heads.specs.Head.{Queues, both, headOf}
-use Rattle.queue_joining.specs.Queue.{nextOf, counted, noManagementPlace, noNumber, managementReply, managementQueues, rowsWithManagement, managementArrivals}
+use Rattle.queue_joining.specs.Queue.{nextOf, noManagementPlace, noNumber, managementReply, managementArrivals}
 use Rattle.management_making.specs.declared.Draft.{Draft}
-use Rattle.management_making.specs.Make.{Held, pathOf, hasPath, made, heldIn}
+use Rattle.management_making.specs.Make.{Held, pathOf, hasPath, isMade, made, heldIn}
 use Rattle.discrimination.specs.declared.Came.{Came}
 use Rattle.discrimination.specs.declared.Came.the-variants.{Passed}
 use Rattle.discrimination.specs.Discrimination.{fromLink}
@@ -31,61 +25,20 @@ use Rattle.passing_passage.specs.Passage.{unreachable, prohibitedTo, tells}
 use Rattle.node.specs.declared.call.Event.the-variants.{Received}
 use Rattle.node.specs.Memory.{Memory}
 use Rattle.node.specs.Call.{callOf}
-use Rattle.promise_ledger.specs.Held.{arrivalOf, numbers}
-use Rattle.promise_ledger.proofs.Free.{slot-below}
-use Rattle.promise_ledger.proofs.Joined.{arrival-other, management-found}
+use Rattle.promise_ledger.specs.Held.{numbers}
+use Rattle.promise_accounts.specs.Gone.{queueOf}
+use Rattle.promise_accounts.proofs.Answers.{made-joined}
 use Rattle.promise_table.specs.Received.{makesTFP, lacking, isUnreachable}
 use Rattle.promise_table.specs.Unchanged.{withTFP}
 use Rattle.promise_table.specs.Table.{rowsOf}
 use Rattle.promise_table.proofs.FirstRow.{the-table}
 use Rattle.promise_table.proofs.Taken.{taken-unreached}
 use Rattle.promise_queueing.specs.Joining.{joinsTFP, TFPJoins}
-use Rattle.promise_queueing.proofs.Joining.{joined-each, one-counted}
+use Rattle.promise_queueing.proofs.Joining.{one-counted}
 use Rattle.promise_queueing.proofs.Only.{Only, only-first}
 use Rattle.promise_queueing.proofs.Only.Only.{end, past, full}
 
--- a management message that finds a place and a number
-module _
-    (rows octets : List ℕ)
-    (queues : Queues)
-    (sound : Sound (queues .spans) (queues .rings) rows octets)
-    (arrivals : List ℕ)
-    (done : managementReply (queues .spans) arrivals ≡ 0)
-    (to : ℕ)
-    (h : to < 33)
-    (heading point slc field : ℕ) where
-  -- the slot that is free, and the rows with the message in it
-  abbrev free : ℕ
-  free = headOf queues 34 .slot
-
-  abbrev row : Slot
-  row = Message.managementRow (nextOf arrivals) heading point slc field
-
-  abbrev placed : List ℕ
-  placed = managementRows rows free (nextOf arrivals) heading point slc field
-
-  found : headOf queues 34 .found ≡ true
-  found = management-found (λ n. true) rows octets queues sound arrivals done
-
-  -- it has the next number
-  number : arrivalOf placed free ≡ nextOf arrivals
-  number =
-      ap (λ (s : Slot). s .arrival)
-      (management-read rows free (nextOf arrivals) heading point slc field (sound .rowsLong) (slot-below rows octets queues sound 34 found))
-
-  others : (other : ℕ) → (other ≡ free → ⊥) → arrivalOf placed other ≡ arrivalOf rows other
-  unfolding managementRows
-  others = arrival-other rows free row
-
-  -- every queue
-  pub management-joins : (ring : ℕ) → ring < 33
-      → numbers (rowsWithManagement queues arrivals rows heading point slc field) (managementQueues queues arrivals to) ring
-      ≡ numbers rows queues ring ++ cond (eqb ring to) (nextOf arrivals ∷ []) []
-  unfolding managementQueues rowsWithManagement
-  management-joins ring l = simp (eq-eqb (managementReply (queues .spans) arrivals) 0 done)
-      (joined-each rows octets queues sound 34 found (omega arith) placed others (nextOf arrivals) number to h ring l)
-
--- and the number is used up
+-- a management message that finds a place and a number uses it up
 management-counted : (spans arrivals : List ℕ) → managementReply spans arrivals ≡ 0 → length arrivals ≡ 1
     → nextOf (managementArrivals spans arrivals) ≡ nextOf arrivals + 1
 unfolding managementArrivals
@@ -130,21 +83,18 @@ module _
 
   -- it is made where it finds a place and a number
   pub tfp-joins : (due ≡ true → managementReply (a .spans) (a .arrivals) ≡ 0) → TFPJoins plan link x a (withTFP plan link x a)
-  unfolding joinsTFP made
+  unfolding joinsTFP made isMade
   tfp-joins placed = record {
     has-path = there;
     queues =
         λ ring low.
         by-due due (made plan (a .links) (a .marks) draft (heldIn a)) (heldIn a) ring (eqb ring path) (nextOf (a .arrivals) ∷ [])
         (λ e.
-        simp (on-path e)
-        (management-joins (a .rows) octets (both (a .spans) (a .rings)) sound (a .arrivals) (placed e) path (omega (arith, there e))
-        (headingOf (draft .message))
-        (draft .point)
-        (draft .slc)
-        (fieldOf (draft .message))
-        ring
-        low));
+        let is-made : isMade plan (a .links) (a .marks) (a .spans) (a .arrivals) draft ≡ true =
+        simp (on-path e, eq-eqb (managementReply (a .spans) (a .arrivals)) 0 (placed e))
+        in
+        made-joined a octets sound plan draft ring low
+        ∙ ap (λ (t : Bool). queueOf a ring ++ cond (t && eqb ring path) (nextOf (a .arrivals) ∷ []) []) is-made);
     counted =
         by-due-counted due (made plan (a .links) (a .marks) draft (heldIn a)) (heldIn a)
         (λ e. simp (on-path e) (management-counted (a .spans) (a .arrivals) (placed e) one));

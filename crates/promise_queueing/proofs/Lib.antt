@@ -5,3 +5,12 @@ pub mod Joining
 pub mod JoiningTFP
 pub mod JoiningCalls
 pub mod NewJoins
+pub mod MadePaths
+pub mod MakingCalls
+pub mod AnswerPaths
+pub mod DeclaresTo
+pub mod MadeJoins
+pub mod DueLaws
+pub mod DueCalls
+pub mod MadeExactly
+pub mod FailureTimer

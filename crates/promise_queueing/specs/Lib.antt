@@ -1,2 +1,4 @@
 pub mod Holding
 pub mod Joining
+pub mod Making
+pub mod Due
