@@ -6,11 +6,20 @@ use counting::in_range;
 ghost use mathlib.Core.Path.{_≡_};
 ghost use Rattle.changeover_cuts.specs.Cuts as Cuts;
 
-// What becomes of a queue: how many are retired, how many then dropped, and for which reason; the rest moves.
+// What becomes of a queue: how many are retired, and how many then dropped; the rest moves.
 pub struct Cut {
     pub retired: u8,
     pub dropped: u8,
-    pub reason: u8,
+}
+
+// At T1's or T2's expiry, and of a waiting link.
+pub fn cut_none() -> Cut
+    ensures { λ r. ⌜ r ≡ Cuts.cutNone ⌝ }
+{
+    Cut {
+        retired: 0,
+        dropped: 0,
+    }
 }
 
 // By the number of a COO or COA.
@@ -21,36 +30,19 @@ pub fn cut_at(known: LinkRecord, f: u8) -> Cut
         Cut {
             retired: distance(known.acknowledged, f),
             dropped: 0,
-            reason: 3,
         }
     } else {
-        Cut {
-            retired: 0,
-            dropped: known.sent,
-            reason: 3,
-        }
+        cut_none()
     }
 }
 
-// Without a number.
+// By an ECO or ECA.
 pub fn cut_unknown(known: LinkRecord) -> Cut
     ensures { λ r. ⌜ r ≡ Cuts.cutUnknown known ⌝ }
 {
     Cut {
         retired: 0,
         dropped: known.sent,
-        reason: 2,
-    }
-}
-
-// Of a waiting link.
-pub fn cut_none() -> Cut
-    ensures { λ r. ⌜ r ≡ Cuts.cutNone ⌝ }
-{
-    Cut {
-        retired: 0,
-        dropped: 0,
-        reason: 2,
     }
 }
 

@@ -24,7 +24,7 @@ pub clear-done : (plan : Plan) (links marks rows : List ℕ) (link : ℕ) (parts
     → both spans rings ≡ retired link (parts .retired) (now .queues)
     → (spans′ rings′ area′ : List ℕ) (count′ : ℕ)
     → state spans′ rings′ area′ count′
-    ≡ dropped rows link (parts .reason) (parts .dropped) (state spans rings (now .log .area) (now .log .count))
+    ≡ dropped rows link 2 (parts .dropped) (state spans rings (now .log .area) (now .log .count))
     → movedAll plan links marks rows link (state spans′ rings′ area′ count′)
     ≡ cleared plan links marks rows link parts now
 unfolding cleared
@@ -33,7 +33,7 @@ clear-done plan links marks rows link parts now spans rings first spans′ rings
     ∙ ap
     (λ (q : Queues).
     movedAll plan links marks rows link
-    (dropped rows link (parts .reason) (parts .dropped) (record { queues = q; log = now .log })))
+    (dropped rows link 2 (parts .dropped) (record { queues = q; log = now .log })))
     first
 
 -- the record that was loaded is stored as that of a link that is out

@@ -16,11 +16,11 @@ use Rattle.changeover_cuts.specs.Cuts.{outOf}
 unfoldable pub linksOut : List ℕ → ℕ → List ℕ
 linksOut links link = withRecord links link (outOf (recordAt links link))
 
--- a link's queue after its first messages are retired, the next dropped, and the rest moved by the rule without the link
+-- a link's queue after its first messages are retired, the next "dropped, reason 2" (R127, R236), and the rest moved by the rule without the link
 unfoldable pub cleared : Plan → List ℕ → List ℕ → List ℕ → ℕ → Cut → State → State
 cleared plan links marks rows link parts now =
     movedAll plan links marks rows link
-    (dropped rows link (parts .reason) (parts .dropped)
+    (dropped rows link 2 (parts .dropped)
     (record { queues = retired link (parts .retired) (now .queues); log = now .log }))
 
 -- the queues, and the reports: "drops in queue order (arrival number, reason), then pause or resume, by code, of each destination whose access

@@ -14,7 +14,7 @@ ghost use Rattle.replies.specs.Areas.{old, new};
 ghost use Rattle.queue_retiring.specs.Leave.{stateBefore, stateAfter};
 ghost use Rattle.changeover_ending.specs.End as End;
 
-// The queue of a link that is out is cleared; how many reports there are now.
+// The queue of a link that is out is cleared, those cut off dropped with reason 2; how many reports there are now.
 fn clear(
     plan: &[u16; 1024],
     links: &[u32; 256],
@@ -31,16 +31,7 @@ fn clear(
         End.cleared (planOf plan) (old links) (old marks) (old rows) link parts (stateBefore spans rings reports told) ⌝ }
 {
     retire(spans, rings, link, parts.retired);
-    let dropped = drop_first(
-        spans,
-        rings,
-        rows,
-        link,
-        parts.dropped,
-        parts.reason as u64,
-        reports,
-        told,
-    );
+    let dropped = drop_first(spans, rings, rows, link, parts.dropped, 2, reports, told);
     move_all(
         plan,
         links,

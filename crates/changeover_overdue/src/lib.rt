@@ -1,6 +1,5 @@
 // The end of a changeover by its timers: T1 or T2 of a link expires.
-use area_links::load_link;
-use changeover_cuts::cut_unknown;
+use changeover_cuts::cut_none;
 use changeover_ending::end_service;
 use changeover_failure::expire_reply;
 use replies::Answer;
@@ -31,7 +30,6 @@ pub fn expire(
     if 0 < reply {
         return plain(reply);
     }
-    let known = load_link(links, link);
     done(end_service(
         plan,
         links,
@@ -40,7 +38,7 @@ pub fn expire(
         rings,
         rows,
         link,
-        cut_unknown(known),
+        cut_none(),
         reports,
     ))
 }

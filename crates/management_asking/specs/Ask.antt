@@ -30,7 +30,7 @@ askCOO plan links arriving fsn point slc f =
     (orderStep known link (draft (COA (lastReceived links arriving fsn link)) point slc link) (emergencyOf point slc link) (cutAt known f))
     nothing
 
--- ECO
+-- ECO: "reason 2 remains only for ECO and ECA" (R236)
 unfoldable pub askECO : Plan → List ℕ → ℕ → ℕ → Step
 askECO plan links point slc =
     let link = linkNamed plan point slc in

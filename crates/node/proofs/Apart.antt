@@ -8,14 +8,13 @@ use lib.Dec.{eqb}
 use lib.ListN.{length}
 use Rattle.plan.specs.declared.data.Plan.{Plan}
 use Rattle.wire.specs.declared.header.Label.{Label}
-use Rattle.area_links.specs.LinkRecords.{recordAt}
 use Rattle.replies.specs.declared.Answer.{Answer}
 use Rattle.replies.specs.Reply.{done}
 use Rattle.replies.specs.Areas.{Areas, areas, Outcome, outcome, refused, judged, Leaves}
 use Rattle.discrimination.specs.declared.Came.{Came}
 use Rattle.discrimination.specs.declared.Came.the-variants.{Malformed, Foreign, Delivered, Managed, Passed}
 use Rattle.discrimination.specs.Discrimination.{fromHost}
-use Rattle.changeover_cuts.specs.Cuts.{cutUnknown}
+use Rattle.changeover_cuts.specs.Cuts.{cutNone}
 use Rattle.changeover_ending.specs.End.{outOfService}
 use Rattle.changeover_failure.specs.Overdue as Overdue
 use Rattle.changeover_overdue.specs.Expire as Changeover
@@ -93,8 +92,7 @@ module _ (plan : Plan) (a : Areas) where
   unfolding Changeover.expired outOfService
   changeover-apart link timer =
       let reply = Overdue.replyOf plan (a .links) link timer (a .reports) in
-      either arrivalsBack (eqb reply 0) (outOfService plan noArrivals link (cutUnknown (recordAt (a .links) link)))
-      (refused reply noArrivals)
+      either arrivalsBack (eqb reply 0) (outOfService plan noArrivals link cutNone) (refused reply noArrivals)
 
   pub changeover-leaves : (link timer : ℕ) (r : Answer) (after : Areas) → Leaves (Changeover.expired plan noArrivals link timer) r after
       → Leaves (Changeover.expired plan a link timer) r (arrivalsBack after)

@@ -1,12 +1,10 @@
 -- The node, one call after the other: what each event answers, and the memory after it.
 use Prim.Native.Nat.{ℕ}
-use mathlib.Core.Bool.{false}
 use mathlib.Core.List.{List}
 use lib.ListN.{length}
 use Rattle.plan.specs.declared.data.Plan.{Plan}
-use Rattle.replies.specs.declared.Answer.{Answer}
 use Rattle.replies.specs.Reply.{plain}
-use Rattle.replies.specs.Areas.{Areas, areas, withLinks, withMarks}
+use Rattle.replies.specs.Areas.{areas, withLinks, withMarks}
 use Rattle.queue_heads.specs.Head.{both}
 use Rattle.sending.specs.Send as Send
 use Rattle.acknowledging.specs.Acknowledge as Acknowledge

@@ -39,7 +39,7 @@ module _ (count : ℕ → ℕ) where
       (λ e. unmet)
       (λ e.
       by-test (λ (c : Cut). Bears count (answerAndEnd own link c)) (eqb (known .state) 1) cutNone parts
-      (λ e ends. (h, (omega arith, omega arith)))
+      (λ e ends. (h, omega arith))
       (λ e ends. (h, fits)))
 
   ack-bears : (link : ℕ) (known : LinkRecord) (parts : Cut) → (link < 32 → Fits parts (count link)) → Bears count (ackStep link known parts)
@@ -82,7 +82,7 @@ module _ (count : ℕ → ℕ) where
         (λ e.
         order-bears (recordAt links link) link (ltb-true link 32 e) (emergencyOf point slc link) (emergencyOf point slc link)
         (cutUnknown (recordAt links link))
-        (omega (arith, queued link (ltb-true link 32 e)), omega arith))
+        (omega (arith, queued link (ltb-true link 32 e))))
         (λ e. unmet)
 
     coa-bears : (f : ℕ) → Bears count (askCOA plan links point slc f)
@@ -91,7 +91,7 @@ module _ (count : ℕ → ℕ) where
 
     eca-bears : Bears count (askECA plan links point slc)
     unfolding askECA
-    eca-bears = ack-bears link (recordAt links link) (cutUnknown (recordAt links link)) (λ h. (omega (arith, queued link h), omega arith))
+    eca-bears = ack-bears link (recordAt links link) (cutUnknown (recordAt links link)) (λ h. omega (arith, queued link h))
 
     cbd-bears : (code : ℕ) → Bears count (askCBD plan point slc code)
     unfolding askCBD

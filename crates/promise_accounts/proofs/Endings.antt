@@ -1,13 +1,13 @@
 -- A link that a call takes out of service: its queue is cut where the event says, and its rest moves by the rule, in order, exactly.
 -- Assumes nothing.
 use mathlib.Core.Path.{_≡_, refl, sym, ap, _∙_}
-use mathlib.Core.Bool.{Bool, true, false, cond, not, _&&_, _||_, true≢false, and-eq-true-iff}
+use mathlib.Core.Bool.{Bool, true, false, not, _&&_, _||_, true≢false, and-eq-true-iff}
 use mathlib.Core.List.{List, []}
-use Prim.Native.Nat.{ℕ, _+_, _≤_, _<_, _%_}
+use Prim.Native.Nat.{ℕ, _≤_, _<_, _%_}
 use native.Mathlib.Omega.{arith}
-use lib.Dec.{eqb, ltb, leb}
+use lib.Dec.{eqb, leb}
 use lib.ListN.{length}
-use borrow.Author.Tests.{ltb-true, ltb-false, leb-true, leb-false, eqb-true}
+use borrow.Author.Tests.{ltb-false, leb-true, leb-false, eqb-true}
 use borrow.Table.Steps.{cases}
 use Rattle.constants.specs.Constants.{noLink}
 use Rattle.plan.specs.declared.data.Plan.{Plan}
@@ -23,7 +23,7 @@ use Rattle.replies.specs.Reply.{ifDone}
 use Rattle.replies.specs.Areas.{Areas, Outcome, judged, refused}
 use Rattle.lookup.specs.Lookup.{isLink}
 use Rattle.changeover_cuts.specs.declared.Cut.{Cut}
-use Rattle.changeover_cuts.specs.Cuts.{cutNone, cutUnknown}
+use Rattle.changeover_cuts.specs.Cuts.{cutNone}
 use Rattle.changeover_ending.specs.End.{outOfService}
 use Rattle.changeover_failure.specs.Failure.{stateAt}
 use Rattle.changeover.specs.Fail.{openFailed, failed}
@@ -113,10 +113,10 @@ module _ (plan : Plan) where
         rows-passed (leb 32 link || (odd || short (a .reports))) (not (isLink plan link)) (not (eqb (known .timer) timer)) []
         (eqb-true reply 0 ends)
         in
-        done-judged _ reply (outOfService plan a link (cutUnknown known)) ends
+        done-judged _ reply (outOfService plan a link cutNone) ends
         (out-exactly (eqb reply 0) false noLink link (link-within link (odd || short (a .reports)) (passed .0))
         (both-false odd (short (a .reports)) (both-false (leb 32 link) (odd || short (a .reports)) (passed .0) .1) .1)
-        (cutUnknown known))
+        cutNone)
 
     -- a waiting link fails
     pub failure-exactly : (link : ℕ) → endingByFailure plan a link .ends ≡ true → ExactBy (endingByFailure plan a link) (failed plan a link)

@@ -1,13 +1,13 @@
 -- The failure of a link, its coming into service, an acknowledgement, and the expiry of timers: what goes is gone, what is made is held.
 -- Assumes nothing.
-use mathlib.Core.Path.{_≡_, sym, _∙_}
-use mathlib.Core.Bool.{Bool, true, false, not, _||_}
+use mathlib.Core.Path.{_≡_}
+use mathlib.Core.Bool.{Bool, false, not, _||_}
 use mathlib.Core.List.{List, []}
-use Prim.Native.Nat.{ℕ, _+_, _≤_, _<_}
+use Prim.Native.Nat.{ℕ, _<_}
 use native.Mathlib.Omega.{arith}
-use lib.Dec.{eqb, ltb, leb}
+use lib.Dec.{eqb, leb}
 use lib.ListN.{length}
-use borrow.Author.Tests.{ltb-true, ltb-false, eqb-true, not-false}
+use borrow.Author.Tests.{ltb-true, ltb-false}
 use Rattle.plan.specs.declared.data.Plan.{Plan}
 use Rattle.plan.specs.Find.{placeOf}
 use Rattle.plan.proofs.Split.{both-false}
@@ -15,19 +15,18 @@ use Rattle.area_flags.specs.Flags.{withFlag}
 use Rattle.area_links.specs.LinkRecords.{recordAt, withRecord}
 use Rattle.queue_rings.specs.Ring.{countOf}
 use Rattle.queue_store.specs.Sound.{tally}
-use Rattle.reports.specs.Report.{log, short, room}
+use Rattle.reports.specs.Report.{short, room}
 use Rattle.wire_messages.specs.declared.management.Message.the-variants.{CBD}
 use Rattle.wire_messages.specs.Management.{headingOf}
 use Rattle.replies.specs.Reply.{first, done}
-use Rattle.replies.specs.Areas.{Areas, areas, Outcome, outcome, judged}
+use Rattle.replies.specs.Areas.{Areas, areas, Outcome}
 use Rattle.lookup.specs.Lookup.{isLink, slcOf, adjacentOf}
 use Rattle.route_access.specs.Change.{isAccessible}
 use Rattle.queue_heads.specs.Head.{Queues, both}
 use Rattle.queue_retiring.specs.Leave.{State, state, retired}
 use Rattle.numbers.specs.Numbers.{upTo}
 use Rattle.management_making.specs.Make.{Held, heldIn, withHeld, withMade, makesReply}
-use Rattle.rerouting_releasing.specs.Release.{released}
-use Rattle.changeover_cuts.specs.Cuts.{cutNone, cutUnknown}
+use Rattle.changeover_cuts.specs.Cuts.{cutNone}
 use Rattle.changeover_ending.specs.End.{outOfService}
 use Rattle.changeover_failure.specs.Failure.{stateAt, orderOf, changing}
 use Rattle.changeover.specs.Fail.{timerOf, openFailed, failed}
@@ -42,7 +41,7 @@ use Rattle.constants.specs.Constants.{t6}
 use Rattle.rerouting.specs.Timer.{replyT6, expiredT6, expiredT10}
 use Rattle.rerouting_expiry.specs.Expiry.{replyT10, testOf}
 use Rattle.rerouting_expiry.specs.Expiry as Expiry
-use Rattle.acknowledging.specs.Acknowledge.{outOfRange, linkOpen, bInRange}
+use Rattle.acknowledging.specs.Acknowledge.{outOfRange, linkOpen}
 use Rattle.acknowledging.specs.Acknowledge as Acknowledge
 use Rattle.acknowledging.proofs.Window.{retired-and-left}
 use Rattle.promise_runs.proofs.Outcomes.{RegularIn, by-test, if-both-done, rows-passed, link-within}
@@ -50,7 +49,7 @@ use Rattle.promise_ledger.specs.Reported.{reportsIn, dropsOf}
 use Rattle.promise_ledger.proofs.FreeKinds.{kinds-retired}
 use Rattle.promise_ledger.proofs.Gone.{retired-even}
 use Rattle.promise_ledger.proofs.Moving.{released-even}
-use Rattle.promise_accounts.specs.Gone.{queueOf, upToB}
+use Rattle.promise_accounts.specs.Gone.{upToB}
 use Rattle.promise_accounts.proofs.Even.{Even, even-none, even-links, EvenBy, untold, undropped, unjudged-even}
 use Rattle.promise_accounts.proofs.EvenMaking.{made-even, joined, joined-even}
 use Rattle.promise_accounts.proofs.EvenEnding.{sent-queued, ending-even}
@@ -81,7 +80,7 @@ module _ (test : ℕ → Bool) (a : Areas) (octets : List ℕ) (regular : Regula
         ending-even test a octets regular long plan link (link-within link (short (a .reports)) (passed .0))
         (both-false (leb 32 link) (short (a .reports)) (passed .0) .1)
         cutNone
-        (omega arith, omega arith))
+        (omega arith))
         (λ e. open-fails))
 
     -- T1, or T2, expires
@@ -94,11 +93,10 @@ module _ (test : ℕ → Bool) (a : Areas) (octets : List ℕ) (regular : Regula
         (λ done.
         let passed = rows-passed (leb 32 link || (odd || short (a .reports))) (not (isLink plan link)) (not (eqb (known .timer) timer)) [] done in
         let within = link-within link (odd || short (a .reports)) (passed .0) in
-        let queued = sent-queued known (countOf (a .spans) link) (regular .each-link link within) in
         ending-even test a octets regular long plan link within
         (both-false odd (short (a .reports)) (both-false (leb 32 link) (odd || short (a .reports)) (passed .0) .1) .1)
-        (cutUnknown known)
-        (omega (arith, queued), omega arith))
+        cutNone
+        (omega arith))
 
     -- a link comes into service: its CBD is held
     abbrev from : Sources

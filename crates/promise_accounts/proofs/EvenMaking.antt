@@ -1,11 +1,10 @@
 -- A message that the node makes is held: nothing else comes or goes.
 -- Assumes nothing.
 use mathlib.Core.Path.{_≡_, refl, _∙_}
-use mathlib.Core.Bool.{Bool, true}
+use mathlib.Core.Bool.{Bool}
 use mathlib.Core.List.{List}
-use Prim.Native.Nat.{ℕ, _+_, _≤_, _<_}
+use Prim.Native.Nat.{ℕ, _≤_, _<_}
 use native.Mathlib.Omega.{arith}
-use lib.Dec.{ltb}
 use lib.ListN.{length, take, length-set}
 use borrow.Author.Tests.{ltb-true}
 use Rattle.plan.specs.declared.data.Plan.{Plan}
@@ -17,7 +16,7 @@ use Rattle.queue_heads.specs.Head.{Queues, both}
 use Rattle.queue_joining.specs.Queue.{managementReply, managementQueues, rowsWithManagement, managementArrivals, counted}
 use Rattle.wire_messages.specs.Management.{headingOf, fieldOf}
 use Rattle.management_making.specs.declared.Draft.{Draft}
-use Rattle.management_making.specs.Make.{Held, held, pathOf, hasPath, made, heldIn, withHeld, withMade}
+use Rattle.management_making.specs.Make.{Held, pathOf, hasPath, made, heldIn, withHeld, withMade}
 use Rattle.promise_runs.proofs.Carrying.{way-carries}
 use Rattle.promise_runs.proofs.Growing.{Goes}
 use Rattle.promise_runs.proofs.Queued.{management-kept}

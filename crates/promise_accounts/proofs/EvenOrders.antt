@@ -16,7 +16,7 @@ use Rattle.replies.specs.Areas.{Areas, Outcome, outcome}
 use Rattle.management_making.specs.Make.{withMade}
 use Rattle.changeover_ending.specs.End.{outOfService}
 use Rattle.management_steps.specs.declared.Step.{Step}
-use Rattle.management_steps.specs.Step.{answer, draft}
+use Rattle.management_steps.specs.Step.{draft}
 use Rattle.management_orders.specs.Carry.{answerReply, withAnswer, endedBy, carried}
 use Rattle.promise_runs.proofs.Outcomes.{RegularIn, by-test, both-by-test}
 use Rattle.promise_accounts.specs.Gone.{upToF, retiredByStep}
@@ -52,10 +52,10 @@ module _ (test : ℕ → Bool) (a : Areas) (octets : List ℕ) (regular : Regula
         ending-even test answered octets (answer-regular a octets regular plan step) (here .one) plan (step .link) (is .0)
         (ap short (answer-reports a octets regular plan step) ∙ room)
         (step .parts)
-        (omega (arith, is .1 .0), is .1 .1)
+        (omega (arith, is .1))
         in
         let same : tally test (upToF answered (step .link) (step .parts)) ≡ tally test (upToF a (step .link) (step .parts)) =
-        ap (tally test) (answer-before a octets regular plan step (step .link) (step .parts .retired) (omega (arith, is .0)) (omega (arith, is .1 .0)))
+        ap (tally test) (answer-before a octets regular plan step (step .link) (step .parts .retired) (omega (arith, is .0)) (omega (arith, is .1)))
         in
         record {
           one = last .one;

@@ -1,9 +1,9 @@
 -- A message for another point, from a link or from the host: queued, or not; where a TFP is made it is held.
 -- Assumes nothing.
 use mathlib.Core.Path.{_≡_, _∙_}
-use mathlib.Core.Bool.{Bool, true, false}
+use mathlib.Core.Bool.{Bool, false}
 use mathlib.Core.List.{List, []}
-use Prim.Native.Nat.{ℕ, _+_, _≤_, _<_}
+use Prim.Native.Nat.{ℕ, _≤_, _<_}
 use native.Mathlib.Omega.{arith}
 use lib.Dec.{eqb, ltb}
 use lib.ListN.{length, length-set}
@@ -13,8 +13,8 @@ use Rattle.plan.specs.Find.{placeOf}
 use Rattle.plan.proofs.Split.{both-false}
 use Rattle.area_flags.specs.Flags.{flagAt}
 use Rattle.wire.specs.declared.header.Label.{Label}
-use Rattle.replies.specs.Reply.{done, ifDone}
-use Rattle.replies.specs.Areas.{Areas, Outcome, outcome, judged, refused, withMarks}
+use Rattle.replies.specs.Reply.{done}
+use Rattle.replies.specs.Areas.{Areas, Outcome, withMarks}
 use Rattle.route_choice.specs.Which.{none}
 use Rattle.queue_heads.specs.Head.{both}
 use Rattle.queue_joining.specs.Queue.{userReply, userArrivals, counted}

@@ -1,11 +1,11 @@
 -- A message received over a link, whatever it is: what it retires is gone, what it reports is dropped, what it makes is held.
 -- Assumes nothing.
 use mathlib.Core.Path.{_≡_, ap}
-use mathlib.Core.Bool.{Bool, true, false, _||_, not}
+use mathlib.Core.Bool.{Bool, true, false, _||_}
 use mathlib.Core.List.{List, []}
-use Prim.Native.Nat.{ℕ, _+_, _≤_, _<_}
+use Prim.Native.Nat.{ℕ, _≤_, _<_}
 use native.Mathlib.Omega.{arith}
-use lib.Dec.{eqb, leb}
+use lib.Dec.{leb}
 use lib.ListN.{length}
 use Rattle.plan.specs.declared.data.Plan.{Plan}
 use Rattle.plan.proofs.Split.{both-false}
@@ -14,12 +14,10 @@ use Rattle.queue_rings.specs.Ring.{countOf}
 use Rattle.queue_store.specs.Sound.{tally}
 use Rattle.wire_messages.specs.declared.management.Message.{Message}
 use Rattle.wire_messages.specs.declared.management.Message.the-variants.{COO, COA, CBD, CBA, ECO, ECA, TFP, TFA, RST}
-use Rattle.counting.specs.Counting.{next}
 use Rattle.reports.specs.Report.{log, short}
 use Rattle.replies.specs.Reply.{done, ifDone}
-use Rattle.replies.specs.Areas.{Areas, areas, Outcome, outcome, withLinks}
+use Rattle.replies.specs.Areas.{Areas, Outcome, withLinks}
 use Rattle.replies.proofs.Rows.{none-applies}
-use Rattle.lookup.specs.Lookup.{isLink}
 use Rattle.route_access.specs.Change.{isAccessible, changesTold}
 use Rattle.numbers.specs.Taken.{takenBy}
 use Rattle.changeback_waiting.specs.Wait.{answers, answered, answeredBy}
@@ -30,12 +28,12 @@ use Rattle.managing.specs.Managed.{asked, stepAsked, managed}
 use Rattle.discrimination.specs.declared.Came.{Came}
 use Rattle.discrimination.specs.declared.Came.the-variants.{Malformed, Foreign, Delivered, Managed, Passed}
 use Rattle.discrimination.specs.Discrimination.{fromLink}
-use Rattle.receiving.specs.Receive.{replyOf, delivery, receivedBy, received}
-use Rattle.promise_runs.proofs.Outcomes.{RegularIn, by-test, rows-passed}
+use Rattle.receiving.specs.Receive.{replyOf, receivedBy, received}
+use Rattle.promise_runs.proofs.Outcomes.{RegularIn, by-test}
 use Rattle.promise_ledger.specs.Reported.{reportsIn, dropsOf}
 use Rattle.promise_ledger.proofs.Told.{changes-even}
 use Rattle.promise_accounts.specs.Gone.{retiredByStep, retiredByMessage}
-use Rattle.promise_accounts.proofs.Even.{KindsIn, Even, even-none, even-links, EvenBy, untold, undropped, taken-even, judged-even}
+use Rattle.promise_accounts.proofs.Even.{KindsIn, even-none, even-links, EvenBy, untold, undropped, taken-even, judged-even}
 use Rattle.promise_accounts.proofs.Small.{Small, link-small}
 use Rattle.promise_accounts.proofs.EvenEnding.{sent-queued}
 use Rattle.promise_accounts.proofs.Bearing.{asked-bears}

@@ -1,7 +1,7 @@
 -- The node's own messages never use the one link that they are never to use.
 -- Assumes nothing.
-use mathlib.Core.Path.{_≡_, refl, sym, ap, _∙_}
-use mathlib.Core.Bool.{true, false, cond, not, _&&_, true≢false, and-eq-true-iff}
+use mathlib.Core.Path.{_≡_, sym, _∙_}
+use mathlib.Core.Bool.{true, false, not, _&&_, true≢false, and-eq-true-iff}
 use mathlib.Core.List.{List}
 use Prim.Native.Nat.{ℕ, _<_}
 use native.Mathlib.Omega.{arith}
@@ -10,7 +10,7 @@ use borrow.Author.Tests.{eq-eqb, not-true}
 use borrow.Table.Steps.{cases}
 use Rattle.plan.specs.declared.data.Plan.{Plan}
 use Rattle.plan.specs.Find.{placeOf, isFound}
-use Rattle.route_serving.specs.State.{serves, isMarked, isOpen, carries}
+use Rattle.route_serving.specs.State.{serves, isMarked, isOpen}
 use Rattle.route_choice.specs.Which.{none}
 use Rattle.route_choice.proofs.Used.{chosen-is}
 use Rattle.route_ways.specs.Way.{forManagement, linkFor, wayOf}

@@ -1,15 +1,14 @@
 -- Everything is in one place: over any run of calls from any configuration, each arrival number given so far is held, acknowledged,
 -- retired by a changeover number or reported dropped, in exactly one place, and no other number is anywhere.
 -- Assumes nothing.
-use mathlib.Core.Path.{_≡_, refl, sym, ap, _∙_}
-use mathlib.Core.Bool.{Bool, true, false}
+use mathlib.Core.Path.{_≡_, sym, ap, _∙_}
+use mathlib.Core.Bool.{Bool, true}
 use mathlib.Core.List.{List, [], _∷_, _++_, map}
 use Prim.Native.Nat.{ℕ, zero, suc, _+_, _≤_, _<_}
 use native.Mathlib.Omega.{arith}
 use lib.ListN.{length, length-set}
 use lib.Seq.{getD-set-same}
 use borrow.Author.Tests.{eq-eqb, ne-eqb}
-use borrow.Table.Steps.{cases}
 use Rattle.plan.specs.declared.data.Plan.{Plan}
 use Rattle.plan.specs.Sound as Plan
 use Rattle.plan.proofs.Split.{alike}
@@ -20,7 +19,7 @@ use Rattle.replies.specs.Areas.{Areas}
 use Rattle.queue_heads.specs.Head.{both}
 use Rattle.plan_configuration.specs.Configure.{configured}
 use Rattle.plan_configuration.proofs.Made.{configured-sound}
-use Rattle.start.specs.Start.{freshSpans, freshRings, freshArrivals}
+use Rattle.start.specs.Start.{freshSpans, freshRings}
 use Rattle.node.specs.Memory.{Memory}
 use Rattle.node.specs.View.{viewOf}
 use Rattle.node.specs.Call.{callOf}
@@ -29,7 +28,6 @@ use Rattle.promise_runs.proofs.KeepsCalls.{RegularAt, call-regular}
 use Rattle.promise_runs.proofs.Reached.{fresh-regular}
 use Rattle.promise_ledger.specs.Held.{arrivalOf, numbers, heldOf, givenOf}
 use Rattle.promise_accounts.specs.Gone.{Gone, nothingGone, goneBy, goneIn, placesOf, nextIn, OnePlace, acknowledgedBy, retiredBy, droppedBy}
-use Rattle.promise_accounts.proofs.Even.{heldIn}
 use Rattle.promise_accounts.proofs.EvenCalls.{call-even}
 
 -- a tally of two lists, one behind the other

@@ -14,7 +14,7 @@ use Rattle.queue_retiring.specs.Leave.{State, state}
 use Rattle.queue_joining.specs.Queue.{nextOf}
 use Rattle.management_making.specs.Make.{pathOf, isMade}
 use Rattle.changeover_cuts.specs.declared.Cut.{Cut}
-use Rattle.changeover_cuts.specs.Cuts.{cutNone, cutUnknown}
+use Rattle.changeover_cuts.specs.Cuts.{cutNone}
 use Rattle.changeover_failure.specs.Failure as Failure
 use Rattle.changeover_failure.specs.Overdue as Overdue
 use Rattle.management_steps.specs.declared.Step.{Step}
@@ -42,14 +42,14 @@ pub record Ending : Type 0 where
 abbrev pub noEnding : Areas → Ending
 noEnding a = record { ends = false; from = a; link = noLink; parts = cutNone; answers = false; path = noLink }
 
--- "T1 or T2 expiry" (R127): of a link whose timer runs
+-- "T1 or T2 expiry" (R127, R235): of a link whose timer runs
 unfoldable pub endingByTimer : Plan → Areas → ℕ → ℕ → Ending
 endingByTimer plan a link timer =
     record {
       ends = eqb (Overdue.replyOf plan (a .links) link timer (a .reports)) 0;
       from = a;
       link = link;
-      parts = cutUnknown (recordAt (a .links) link);
+      parts = cutNone;
       answers = false;
       path = noLink;
     }

@@ -27,7 +27,7 @@ use Rattle.node.specs.View.{View, Comes, Fails, Sends, Acknowledges, Arrives, H
 use Rattle.node.specs.Memory.{Memory, Result}
 use Rattle.node.specs.Call.{callOf}
 use Rattle.promise_runs.specs.Run.{Call, lent, called}
-use Rattle.promise_ledger.specs.Held.{numbers, heldOf, givenOf}
+use Rattle.promise_ledger.specs.Held.{numbers, heldOf}
 use Rattle.promise_ledger.specs.Reported.{Report, reportsIn, dropsOf}
 
 -- a link's queue by arrival numbers, first to last

@@ -24,7 +24,7 @@ use Rattle.queue_retiring.specs.Leave.{State, state, retired}
 use Rattle.queue_moving.specs.Move.{pointOf}
 use Rattle.numbers.specs.Numbers.{upTo}
 use Rattle.management_making.specs.Make.{Held, heldIn, withHeld, withMade, makesReply}
-use Rattle.changeover_cuts.specs.Cuts.{cutNone, cutUnknown}
+use Rattle.changeover_cuts.specs.Cuts.{cutNone}
 use Rattle.changeover_ending.specs.End.{outOfService}
 use Rattle.changeover_failure.specs.Failure.{stateAt, orderOf}
 use Rattle.changeover_failure.specs.Failure as Failure
@@ -79,10 +79,10 @@ module _ (plan : Plan) (a : Areas) (octets : List ℕ) (regular : RegularIn a oc
         let known = recordAt (a .links) link in
         let odd = not (eqb timer 1 || eqb timer 2) in
         let reply = Overdue.replyOf plan (a .links) link timer (a .reports) in
-        if-done SteadyBy reply (outOfService plan a link (cutUnknown known)) (refused reply a)
+        if-done SteadyBy reply (outOfService plan a link cutNone) (refused reply a)
         (λ done.
         let passed = rows-passed (leb 32 link || (odd || short (a .reports))) (not (isLink plan link)) (not (eqb (known .timer) timer)) [] done in
-        out-steady link (link-within link (odd || short (a .reports)) (passed .0)) plan a (cutUnknown known))
+        out-steady link (link-within link (odd || short (a .reports)) (passed .0)) plan a cutNone)
         (steady-none a)
 
     -- a link fails

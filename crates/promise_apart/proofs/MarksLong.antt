@@ -10,7 +10,6 @@ use Rattle.constants.specs.Constants.{t6, t8}
 use Rattle.plan.specs.declared.data.Plan.{Plan}
 use Rattle.plan.specs.Find.{placeOf}
 use Rattle.area_flags.specs.Flags.{word, withFlag}
-use Rattle.area_links.specs.LinkRecords.{recordAt}
 use Rattle.wire.specs.declared.header.Label.{Label}
 use Rattle.wire_messages.specs.declared.management.Message.{Message}
 use Rattle.wire_messages.specs.declared.management.Message.the-variants.{COO, COA, CBD, CBA, ECO, ECA, TFP, TFA, RST}
@@ -19,7 +18,7 @@ use Rattle.replies.specs.Areas.{Areas, areas, Outcome, outcome, judged, refused
 use Rattle.numbers.specs.Numbers.{isTaken}
 use Rattle.numbers.specs.Taken.{withTaken, takenBy}
 use Rattle.management_making.specs.Make.{isMade, withMade, makesReply}
-use Rattle.changeover_cuts.specs.Cuts.{cutNone, cutUnknown}
+use Rattle.changeover_cuts.specs.Cuts.{cutNone}
 use Rattle.changeover_ending.specs.End.{outOfService}
 use Rattle.changeover_failure.specs.Failure.{stateAt}
 use Rattle.changeover_failure.specs.Failure as Failure
@@ -194,7 +193,7 @@ module _ (plan : Plan) (a : Areas) where
   unfolding Change.expired outOfService
   timer-long link timer =
       let reply = Overdue.replyOf plan (a .links) link timer (a .reports) in
-      if-done LongBy reply (outOfService plan a link (cutUnknown (recordAt (a .links) link))) (refused reply a) (λ e. refl) refl
+      if-done LongBy reply (outOfService plan a link cutNone) (refused reply a) (λ e. refl) refl
 
   -- T6, T8 and T10
   t6-long : (x : ℕ) → LongBy (expiredT6 plan a x)

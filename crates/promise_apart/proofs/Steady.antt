@@ -152,9 +152,9 @@ module _ (link : ℕ) (h : link < 32) where
       unfolding cleared movedAll
       cleared-stay parts now =
           let one : State = record { queues = retired link (parts .retired) (now .queues); log = now .log } in
-          let two : State = dropped rows link (parts .reason) (parts .dropped) one in
+          let two : State = dropped rows link 2 (parts .dropped) one in
           many-stay (λ (s : State). s .queues) (movedOne plan links marks rows link) moved-one-stay (countOf (two .queues .spans) link) two
-          ∙ dropped-stay (parts .reason) (parts .dropped) one
+          ∙ dropped-stay 2 (parts .dropped) one
           ∙ retired-stay (parts .retired) (now .queues)
 
   -- a link goes out

@@ -88,15 +88,13 @@ module _ (plan : Plan) (a : Areas) (octets : List ℕ) (regular : RegularIn a oc
       let reply = Failure.replyOf plan (a .links) link (a .reports) in
       let done = eqb-true reply 0 (and-eq-true-iff (eqb reply 0) waits .0 ends .0) in
       let passed = rows-passed (leb 32 link || short (a .reports)) (not (isLink plan link)) (not (opened || waits)) [] done in
-      record { within = link-within link (short (a .reports)) (passed .0); fits = (omega arith, omega arith); retires = refl }
+      record { within = link-within link (short (a .reports)) (passed .0); fits = omega arith; retires = refl }
   ending-asks message (Overdue link timer) ends =
       let known = recordAt (a .links) link in
       let odd = not (eqb timer 1 || eqb timer 2) in
       let done = eqb-true (Overdue.replyOf plan (a .links) link timer (a .reports)) 0 ends in
       let passed = rows-passed (leb 32 link || (odd || short (a .reports))) (not (isLink plan link)) (not (eqb (known .timer) timer)) [] done in
-      let within = link-within link (odd || short (a .reports)) (passed .0) in
-      let queued = sent-queued known (countOf (a .spans) link) (regular .each-link link within) in
-      record { within = within; fits = (omega (arith, queued), omega arith); retires = refl }
+      record { within = link-within link (odd || short (a .reports)) (passed .0); fits = omega arith; retires = refl }
   ending-asks message (Comes link) ends = unmet ends
   ending-asks message (Sends link) ends = unmet ends
   ending-asks message (Acknowledges link b) ends = unmet ends

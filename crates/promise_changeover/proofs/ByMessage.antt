@@ -1,7 +1,7 @@
 -- What each of COO, COA, ECO and ECA asks of the link that it names, where it is answered with 0: the link goes out, and its queue is cut at the
--- number if that is in range, else behind what was sent.
+-- number if that is in range; not at all if it isn't; and without one behind what was sent.
 -- Assumes nothing.
-use mathlib.Core.Path.{_≡_, refl, sym, ap, ap₂, _∙_, subst}
+use mathlib.Core.Path.{_≡_, refl, sym, ap, ap₂, _∙_}
 use mathlib.Core.Bool.{Bool, true, false, cond, _&&_}
 use mathlib.Core.List.{List, [], _++_}
 use Prim.Native.Nat.{ℕ, _+_, _≤_, _<_}
@@ -13,7 +13,6 @@ use borrow.Author.Tests.{eqb-true, leb-true, ltb-true}
 use Rattle.counting.specs.Counting.{inRange, distance, onward}
 use Rattle.counting.proofs.Laws.{onward-distance, in-range}
 use Rattle.plan.specs.declared.data.Plan.{Plan}
-use Rattle.plan.proofs.Split.{split}
 use Rattle.area_links.specs.declared.LinkRecord.{LinkRecord}
 use Rattle.area_links.specs.LinkRecords.{recordAt}
 use Rattle.wire_messages.specs.declared.management.Message.{Message}
@@ -39,23 +38,14 @@ use Rattle.promise_runs.proofs.Outcomes.{by-test, unmet}
 use Rattle.promise_accounts.specs.Gone.{queueOf}
 use Rattle.promise_accounts.specs.Ending.{Ending, noEnding, endingByStep, endingByMessage, endingOf}
 use Rattle.promise_accounts.proofs.TakingOut.{not-refused}
-use Rattle.promise_changeover.specs.ChangedOver.{retiring, dropping, leaving, dropsWith, InService, Meets, AfterNumber, SentDropped}
+use Rattle.promise_changeover.specs.ChangedOver.{retiring, dropping, leaving, InService, Meets, AfterNumber, SentDropped}
 use Rattle.promise_changeover.proofs.ChangedOver.{in-three}
-
--- a cut that does the same to a queue: the reason counts where some are dropped
-pub record Same (parts new : Cut) : Type 0 where
-  pub retires : new .retired ≡ parts .retired
-  pub drops : new .dropped ≡ parts .dropped
-  pub reason : 0 < parts .dropped → new .reason ≡ parts .reason
-
-same-self : (parts : Cut) → Same parts parts
-same-self parts = record { retires = refl; drops = refl; reason = λ some. refl }
 
 -- a step takes a link out, and cuts its queue so
 pub record Cuts (link : ℕ) (parts : Cut) (step : Step) : Type 0 where
   pub ends : step .ends ≡ true
   pub that-link : step .link ≡ link
-  pub so : Same parts (step .parts)
+  pub so : step .parts ≡ parts
 
 -- a number in range lies no further on than what was sent, and cuts the queue there
 module _ (known : LinkRecord) (f : ℕ) where
@@ -65,21 +55,21 @@ module _ (known : LinkRecord) (f : ℕ) where
   pub near : inRange 128 (known .acknowledged) (known .sent) f ≡ true → far ≤ known .sent
   near on = leb-true far (known .sent) (sym (in-range 128 (lit< tt) (known .acknowledged) (known .sent) f) ∙ on)
 
-  pub at-number : inRange 128 (known .acknowledged) (known .sent) f ≡ true → cutAt known f ≡ cut far 0 3
+  pub at-number : inRange 128 (known .acknowledged) (known .sent) f ≡ true → cutAt known f ≡ cut far 0
   unfolding cutAt
-  at-number on = ap (λ (t : Bool). cond t (cut far 0 3) (cut 0 (known .sent) 3)) on
+  at-number on = ap (λ (t : Bool). cond t (cut far 0) cutNone) on
 
-  -- one that isn't cuts behind what was sent
-  pub beside-number : inRange 128 (known .acknowledged) (known .sent) f ≡ false → cutAt known f ≡ cut 0 (known .sent) 3
+  -- one that isn't cuts nothing off
+  pub beside-number : inRange 128 (known .acknowledged) (known .sent) f ≡ false → cutAt known f ≡ cutNone
   unfolding cutAt
-  beside-number off = ap (λ (t : Bool). cond t (cut far 0 3) (cut 0 (known .sent) 3)) off
+  beside-number off = ap (λ (t : Bool). cond t (cut far 0) cutNone) off
 
   -- either way no more is cut off than was sent
   at-few : cutAt known f .retired + cutAt known f .dropped ≤ known .sent
   unfolding cutAt
   at-few =
       let on = inRange 128 (known .acknowledged) (known .sent) f in
-      by-test (λ (c : Cut). c .retired + c .dropped ≤ known .sent) on (cut far 0 3) (cut 0 (known .sent) 3)
+      by-test (λ (c : Cut). c .retired + c .dropped ≤ known .sent) on (cut far 0) cutNone
       (λ e. omega (arith, near e))
       (λ e. omega arith)
 
@@ -98,14 +88,9 @@ order-cuts known up link own emergency parts none =
     record {
       ends = refl;
       that-link = refl;
-      so =
-          record {
-            retires = omega (arith, nothing);
-            drops = omega (arith, nothing);
-            reason = λ some. absurd (omega (arith, nothing, some));
-          };
+      so = ap₂ cut (omega (arith, nothing)) (omega (arith, nothing));
     })
-    (λ carries. record { ends = refl; that-link = refl; so = same-self parts }))
+    (λ carries. record { ends = refl; that-link = refl; so = refl }))
 
 module _ (plan : Plan) (a : Areas) (arriving fsn point slc : ℕ) (up : InService a (linkNamed plan point slc))
     (none-sent : (link : ℕ) → link < 32 → recordAt (a .links) link .state ≡ 1 → recordAt (a .links) link .sent ≡ 0) where
@@ -135,7 +120,7 @@ module _ (plan : Plan) (a : Areas) (arriving fsn point slc : ℕ) (up : InServic
   unfolding ackStep
   acknowledged parts =
       by-test (CutsIfDone parts) (ltb link 32 && eqb (known .timer) 2) (end link parts) nothing
-      (λ counts done. record { ends = refl; that-link = refl; so = same-self parts })
+      (λ counts done. record { ends = refl; that-link = refl; so = refl })
       (λ ignored. unmet)
 
   pub coo-cuts : (f : ℕ) → CutsIfDone (cutAt known f) (asks (COO f))
@@ -202,7 +187,7 @@ module _ (plan : Plan) (arriving fsn : ℕ) (order : Order) (a : Areas) where
     -- so the call takes the link out
     pub received-cuts : Receive.received plan arriving fsn message a .answer .reply ≡ 0
         → let ending = endingOf plan a message (Arrives arriving fsn) in
-        (ending .ends ≡ true) × (ending .link ≡ link) × Same parts (ending .parts)
+        (ending .ends ≡ true) × (ending .link ≡ link) × (ending .parts ≡ parts)
     unfolding Receive.received Receive.receivedBy endingOf endingByMessage endingByStep
     received-cuts done =
         let became : Outcome = Receive.receivedBy plan arriving fsn (length message) (fromLink plan message) a in
@@ -217,7 +202,7 @@ module _ (plan : Plan) (arriving fsn : ℕ) (order : Order) (a : Areas) where
         in (
           ap (λ (e : Ending). e .ends) ending ∙ simp (both .0, both .1, so .ends),
           ap (λ (e : Ending). e .link) ending ∙ so .that-link,
-          subst (λ (e : Ending). Same parts (e .parts)) (sym ending) (so .so),
+          ap (λ (e : Ending). e .parts) ending ∙ so .so,
         )
 
 -- where the queue is cut at a number in range
@@ -225,13 +210,13 @@ module _ (a : Areas) (ending : Ending) (link f : ℕ) (met : Meets a link f) whe
   abbrev its : LinkRecord
   its = recordAt (a .links) link
 
-  pub after-number : ending .ends ≡ true → ending .link ≡ link → Same (cutAt its f) (ending .parts)
+  pub after-number : ending .ends ≡ true → ending .link ≡ link → ending .parts ≡ cutAt its f
       → length (retiring a ending) ≡ ending .parts .retired
       → AfterNumber a ending link f
   after-number ends that-link so many =
-      let is = at-number its f (met .in-range) in
-      let retired : ending .parts .retired ≡ far its f = so .retires ∙ ap (λ (c : Cut). c .retired) is in
-      let dropped : ending .parts .dropped ≡ 0 = so .drops ∙ ap (λ (c : Cut). c .dropped) is in
+      let is = so ∙ at-number its f (met .in-range) in
+      let retired : ending .parts .retired ≡ far its f = ap (λ (c : Cut). c .retired) is in
+      let dropped : ending .parts .dropped ≡ 0 = ap (λ (c : Cut). c .dropped) is in
       let none : dropping a ending ≡ [] =
       ap (λ (n : ℕ). take n (drop (ending .parts .retired) (queueOf a (ending .link)))) dropped
       in
@@ -248,30 +233,20 @@ module _ (a : Areas) (ending : Ending) (link f : ℕ) (met : Meets a link f) whe
       }
 
 -- where it is cut behind what was sent
-module _ (a : Areas) (ending : Ending) (link reason : ℕ) where
-  abbrev sent : ℕ
-  sent = recordAt (a .links) link .sent
-
-  pub sent-dropped : ending .ends ≡ true → ending .link ≡ link → Same (cut 0 sent reason) (ending .parts) → SentDropped a ending link reason
-  sent-dropped ends that-link so =
-      let queue : List ℕ = queueOf a (ending .link) in
-      let here : queueOf a (ending .link) ≡ queueOf a link = ap (queueOf a) that-link in
-      record {
-        ends = ends;
-        that-link = that-link;
-        none-retired = ap (λ (n : ℕ). take n queue) (so .retires);
-        sent-are =
-            ap₂ (λ (n k : ℕ). take n (drop k queue)) (so .drops) (so .retires) ∙ ap (take sent) here;
-        for-reason =
-            split 0 (ending .parts .dropped)
-            (λ some.
-            ap (λ (n : ℕ). dropsWith n (dropping a ending)) (so .reason (omega (arith, some, so .drops))))
-            (λ none.
-            let zero : ending .parts .dropped ≡ 0 = omega (arith, none) in
-            let empty : dropping a ending ≡ [] = ap (λ (n : ℕ). take n (drop (ending .parts .retired) queue)) zero in
-            ap (dropsWith (ending .parts .reason)) empty ∙ sym (ap (dropsWith reason) empty));
-        unsent-leave =
-            ap₂ (λ (n k : ℕ). drop (n + k) queue) (so .retires) (so .drops)
-            ∙ ap (drop (0 + sent)) here
-            ∙ ap (λ (n : ℕ). drop n (queueOf a link)) (zero-add sent);
-      }
+pub sent-dropped : (a : Areas) (ending : Ending) (link : ℕ) → ending .ends ≡ true → ending .link ≡ link
+    → ending .parts ≡ cutUnknown (recordAt (a .links) link)
+    → SentDropped a ending link
+sent-dropped a ending link ends that-link so =
+    let sent : ℕ = recordAt (a .links) link .sent in
+    let queue : List ℕ = queueOf a (ending .link) in
+    let here : queueOf a (ending .link) ≡ queueOf a link = ap (queueOf a) that-link in
+    record {
+      ends = ends;
+      that-link = that-link;
+      none-retired = ap (λ (c : Cut). take (c .retired) queue) so;
+      sent-are = ap (λ (c : Cut). take (c .dropped) (drop (c .retired) queue)) so ∙ ap (take sent) here;
+      unsent-leave =
+          ap (λ (c : Cut). drop (c .retired + c .dropped) queue) so
+          ∙ ap (drop (0 + sent)) here
+          ∙ ap (λ (n : ℕ). drop n (queueOf a link)) (zero-add sent);
+    }

@@ -134,14 +134,14 @@ module _
   by-number : (reason : ℕ) (slots : List ℕ) → dropsFor reason (from .rows) slots ≡ dropsWith reason (map (arrivalOf (from .rows)) slots)
   by-number reason slots = sym (map-map (report reason) (arrivalOf (from .rows)) slots)
 
-  told-is : toldBy r ≡ (dropsWith (ending .parts .reason) (dropping a ending) ++ dropsWith 1 (unrouted plan ending)) ++ changesBy plan ending
+  told-is : toldBy r ≡ (dropsWith 2 (dropping a ending) ++ dropsWith 1 (unrouted plan ending)) ++ changesBy plan ending
   unfolding reportsIn
   told-is =
       exact .ended .told
       ∙ ap (λ (l : List Report). l ++ changesBy plan ending)
       (exact .ended .cleared .told
       ∙ ap₂ (λ (first next : List Report). first ++ next)
-      (by-number (ending .parts .reason) (droppedPart (ending .parts) (slotsThen ending)) ∙ ap (dropsWith (ending .parts .reason)) dropped-numbers)
+      (by-number 2 (droppedPart (ending .parts) (slotsThen ending)) ∙ ap (dropsWith 2) dropped-numbers)
       (by-number 1 (stranded (goesBy plan ending) (rest (ending .parts) (slotsThen ending)))))
 
   -- nothing goes to the link that is out
@@ -204,10 +204,10 @@ module _
       record {
         in-three = in-three (parts .retired) (parts .dropped) (queueOf a link);
         retired-are = asks .retires;
-        retired-many = length-take-le (parts .retired) (queueOf a link) (omega (arith, many, asks .fits .0));
+        retired-many = length-take-le (parts .retired) (queueOf a link) (omega (arith, many, asks .fits));
         dropped-many =
             length-take-le (parts .dropped) (drop (parts .retired) (queueOf a link))
-            (omega (arith, many, asks .fits .0, length-drop (parts .retired) (queueOf a link)));
+            (omega (arith, many, asks .fits, length-drop (parts .retired) (queueOf a link)));
         leaving-are = sym left-numbers;
         goes-out = exact .goes-out;
         emptied = emptied-is;

@@ -11,6 +11,7 @@ use Rattle.plan.proofs.Split.{split}
 use Rattle.area_links.specs.declared.LinkRecord.{LinkRecord}
 use Rattle.area_links.specs.LinkRecords.{recordAt}
 use Rattle.queue_store.specs.Sound.{tally, is}
+use Rattle.changeover_cuts.specs.declared.Cut.{Cut}
 use Rattle.changeover_cuts.specs.Cuts.{cutAt}
 use Rattle.plan_configuration.specs.Configure.{configured}
 use Rattle.node.specs.Memory.{Memory}
@@ -31,7 +32,7 @@ use Rattle.promise_changeover.proofs.ByMessage.{after-number}
 use Rattle.promise_changeover.proofs.Naming.{number-ends}
 
 -- a link that isn't out is one of the 32
-one-of-all : (links : List ℕ) (link : ℕ) → (recordAt links link .state ≡ 0 → ⊥) → link < 32
+pub one-of-all : (links : List ℕ) (link : ℕ) → (recordAt links link .state ≡ 0 → ⊥) → link < 32
 one-of-all links link up = split link 32 (λ below. below) (λ past. absurd (up (simp (le-ltb link 32 past))))
 
 module _ (m : Memory) (whole : Whole m) (one : length (m .areas .arrivals) ≡ 1) (text : List ℕ) (calls : List Call) where
@@ -72,7 +73,7 @@ module _ (m : Memory) (whole : Whole m) (one : length (m .areas .arrivals) ≡ 1
       let changed = changed-over m whole one text calls call (ends .0) in
       let twice = nothing-twice m whole one text calls link within in
       let many : cutAt known f .retired ≡ ending .parts .retired + ending .parts .dropped =
-      omega (arith, ends .2 .retires, ends .2 .drops, truly .none-dropped)
+      omega (arith, ap (λ (c : Cut). c .retired) (ends .2), ap (λ (c : Cut). c .dropped) (ends .2), truly .none-dropped)
       in
       let behind : drop (cutAt known f .retired) (queueOf (found call before) link) ≡ leaving (found call before) ending =
       ap (λ (n : ℕ). drop n (queueOf (found call before) link)) many

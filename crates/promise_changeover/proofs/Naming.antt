@@ -26,7 +26,7 @@ use Rattle.promise_runs.proofs.KeepsCalls.{RegularAt}
 use Rattle.promise_accounts.specs.Ending.{Ending, endingOf}
 use Rattle.promise_farend.specs.History.{resultOf}
 use Rattle.promise_changeover.specs.ChangedOver.{found, endingBy, WithNumber, WithoutNumber, Brings, InService}
-use Rattle.promise_changeover.proofs.ByMessage.{Same, Carried, Cuts, coo-carried, coa-carried, eco-carried, eca-carried}
+use Rattle.promise_changeover.proofs.ByMessage.{Carried, Cuts, coo-carried, coa-carried, eco-carried, eca-carried}
 use Rattle.promise_changeover.proofs.ByMessage.{coo-cuts, coa-cuts, eco-cuts, eca-cuts, received-cuts}
 
 module _ (plan : Plan) (call : Call) (m : Memory) (regular : RegularAt (lent call m)) where
@@ -41,7 +41,7 @@ module _ (plan : Plan) (call : Call) (m : Memory) (regular : RegularAt (lent cal
   -- how a call ends that cuts the queue of a link so, by the link's record
   abbrev pub EndsBy : (LinkRecord → Cut) → ℕ → Ending → Type 0
   EndsBy cutOf link ending =
-      (ending .ends ≡ true) × (ending .link ≡ link) × Same (cutOf (recordAt (a .links) link)) (ending .parts)
+      (ending .ends ≡ true) × (ending .link ≡ link) × (ending .parts ≡ cutOf (recordAt (a .links) link))
 
   -- a message of a kind whose effect is its step
   module _ (Says : Message → Type 0) (cutOf : LinkRecord → Cut) where

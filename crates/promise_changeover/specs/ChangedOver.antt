@@ -41,7 +41,7 @@ found call m = lent call m .areas
 abbrev pub endingBy : Plan → Call → Memory → Ending
 endingBy plan call m = endingOf plan (found call m) (call .message) (viewOf (call .event))
 
--- the queue of the link that goes out, in three: "messages up to F are retired" (R125), "sent ones are dropped" (R126, R127), and the rest leaves
+-- the queue of the link that goes out, in three: "messages up to F are retired" (R125), "sent ones dropped" (R127), and the rest leaves
 abbrev pub retiring : Areas → Ending → List ℕ
 retiring a ending = take (ending .parts .retired) (queueOf a (ending .link))
 
@@ -102,9 +102,9 @@ pub record ChangedOver (plan : Plan) (a : Areas) (ending : Ending) (retired : Li
   -- so a host reads what joined it from the queue before and the queue after
   pub put : (other : ℕ) → other < 32 → (other ≡ ending .link → ⊥)
       → putOn (queueOf a other) (queueOf (r .after .areas) other) ≡ joining plan a ending other
-  -- the reports: the drops, and nothing else but the changes of access; as many as the answer counts (R219)
+  -- the reports: the drops, "sent ones" with "reason 2" (R127), and nothing else but the changes of access; as many as the answer counts (R219)
   pub told : toldBy r
-      ≡ (dropsWith (ending .parts .reason) (dropping a ending) ++ dropsWith 1 (unrouted plan ending)) ++ changesBy plan ending
+      ≡ (dropsWith 2 (dropping a ending) ++ dropsWith 1 (unrouted plan ending)) ++ changesBy plan ending
   pub counted : length (toldBy r) ≡ r .answer .reports
   -- "once" (D3): each message that leaves is on one of the 32 links, or reported with reason 1, as often as it stood in the queue
   pub each-once : (number : ℕ)
@@ -156,12 +156,10 @@ pub record AfterNumber (a : Areas) (ending : Ending) (link f : ℕ) : Type 0 whe
   pub none-dropped : dropping a ending ≡ []
   pub rest-leaves : queueOf a link ≡ retiring a ending ++ leaving a ending
 
--- "F not in range: sent ones are dropped, reason 3; unsent ones move" (R126); "ECO, ECA, T1 or T2 expiry: sent ones dropped, reason 2; unsent ones
--- move" (R127)
-pub record SentDropped (a : Areas) (ending : Ending) (link reason : ℕ) : Type 0 where
+-- "ECO, ECA ..: sent ones dropped, reason 2; unsent ones move" (R127, R236)
+pub record SentDropped (a : Areas) (ending : Ending) (link : ℕ) : Type 0 where
   pub ends : ending .ends ≡ true
   pub that-link : ending .link ≡ link
   pub none-retired : retiring a ending ≡ []
   pub sent-are : dropping a ending ≡ take (recordAt (a .links) link .sent) (queueOf a link)
-  pub for-reason : dropsWith (ending .parts .reason) (dropping a ending) ≡ dropsWith reason (dropping a ending)
   pub unsent-leave : leaving a ending ≡ drop (recordAt (a .links) link .sent) (queueOf a link)

@@ -53,7 +53,7 @@ pub record DemandThree (plan : Plan) (calls : List Call) (m : Memory) : Type 0 w
       → Meets (found call before) link f
       → resultOf plan call before .answer .reply ≡ 0
       → AfterNumber (found call before) (endingBy plan call before) link f
-  -- "and with true numbers nothing is lost and nothing doubled.": the number of the last message taken, and every acknowledgement before it true
+  -- "and with true numbers nothing is lost and nothing doubled." (R241): the number of the last message taken, and every acknowledgement before it true
   pub nothing-lost : (call : Call) (link : ℕ) (takings : List ℕ)
       → let before = ran plan calls m in
       let taken = takenIn calls takings 0 in

@@ -13,7 +13,6 @@ use Rattle.queue_rings.specs.Ring.{queue, spansTaken, spansPut, ringsPut}
 use Rattle.queue_rings.proofs.Queues.{taken-other, put-other}
 use Rattle.queue_store.specs.Sound.{bit, tally, is, Sound}
 use Rattle.queue_store.proofs.Held.{taken-tally, put-tally}
-use Rattle.route_choice.specs.Which.{none}
 use Rattle.queue_heads.specs.Head.{Queues, headOf, moved, freeRing, freed}
 use Rattle.queue_moving.specs.Move.{apart}
 use Rattle.promise_runs.proofs.Counts.{move-sound}

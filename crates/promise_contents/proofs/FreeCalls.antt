@@ -22,7 +22,7 @@ use Rattle.queue_retiring.specs.Leave.{State, state, retired}
 use Rattle.queue_joining.specs.Queue.{nextOf}
 use Rattle.numbers.specs.Numbers.{upTo}
 use Rattle.management_making.specs.Make.{Held, heldIn, makesReply}
-use Rattle.changeover_cuts.specs.Cuts.{cutNone, cutUnknown}
+use Rattle.changeover_cuts.specs.Cuts.{cutNone}
 use Rattle.changeover_ending.specs.End.{outOfService}
 use Rattle.changeover_failure.specs.Failure.{stateAt, orderOf}
 use Rattle.changeover.specs.Fail.{openFailed, failed}
@@ -87,7 +87,7 @@ module _ (plan : Plan) (a : Areas) (octets : List ℕ) (regular : RegularIn a oc
       let passed = rows-passed (leb 32 link || (odd || short (a .reports))) (not (isLink plan link)) (not (eqb (known .timer) timer)) [] done in
       out-stays Nothing a a octets (stays-none Nothing a) regular plan link
       (omega (arith, link-within link (odd || short (a .reports)) (passed .0)))
-      (cutUnknown known))
+      cutNone)
 
   -- a link comes into service
   declared-stays : (link : ℕ) (from : Sources) (slot : ℕ) → slot < 256

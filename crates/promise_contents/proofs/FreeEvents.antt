@@ -62,9 +62,9 @@ out-freer b octets regular plan link h parts =
     let rows : List ℕ = b .rows in
     let start : State = state (b .spans) (b .rings) (b .reports) 0 in
     let left : State = record { queues = retired link (parts .retired) (start .queues); log = start .log } in
-    let next : State = dropped rows link (parts .reason) (parts .dropped) left in
+    let next : State = dropped rows link 2 (parts .dropped) left in
     let one = freer-retired rows octets link h (parts .retired) (start .queues) (regular .store) in
-    let two = freer-dropped rows octets link h (parts .reason) (parts .dropped) left (one .sound) in
+    let two = freer-dropped rows octets link h 2 (parts .dropped) left (one .sound) in
     let three = freer-moved rows octets plan (linksOut (b .links) link) (b .marks) link h next (two .sound) in
     freer-on rows octets link (start .queues) (next .queues) _ (freer-on rows octets link (start .queues) (left .queues) (next .queues) one two)
     three

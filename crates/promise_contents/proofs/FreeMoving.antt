@@ -9,7 +9,7 @@ use borrow.Table.Steps.{cases}
 use Rattle.plan.specs.declared.data.Plan.{Plan}
 use Rattle.queue_rings.specs.Ring.{countOf}
 use Rattle.route_choice.specs.Which.{none}
-use Rattle.queue_heads.specs.Head.{Queues, headOf, moved, freed, repeat}
+use Rattle.queue_heads.specs.Head.{Queues, headOf, freed, repeat}
 use Rattle.queue_retiring.specs.Leave.{State, retired, droppedOne, dropped}
 use Rattle.queue_moving.specs.Move.{pointOf, goesTo, movedOne, movedAll, apart}
 use Rattle.rerouting_releasing.specs.Release.{releasedOne, released}

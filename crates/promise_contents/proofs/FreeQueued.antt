@@ -2,7 +2,7 @@
 -- Assumes nothing.
 use mathlib.Core.Path.{_≡_, refl, ap}
 use mathlib.Core.Logic.{inl, inr}
-use mathlib.Core.Bool.{true, false}
+use mathlib.Core.Bool.{false}
 use mathlib.Core.List.{List}
 use Prim.Native.Nat.{ℕ, _≤_, _<_}
 use native.Mathlib.Omega.{arith}
@@ -20,7 +20,6 @@ use Rattle.constants.specs.Constants.{t6}
 use Rattle.passing_passage.specs.Passage.{linkOf, unreachable, ringBy, ringOf}
 use Rattle.area_slots.specs.declared.Slot.{Slot}
 use Rattle.queue_rings.specs.Ring.{countOf}
-use Rattle.queue_slots.specs.Message.{fits}
 use Rattle.queue_slots.proofs.Messages.{fits-there}
 use Rattle.queue_slots.proofs.ReadBack.{user-read, management-read, row-kept}
 use Rattle.queue_slots.specs.Write.{Write}

@@ -2,13 +2,13 @@
 -- destinations below 16384, an SLC below 16. So another point reads it as what was made.
 -- Assumes nothing.
 use mathlib.Core.Path.{_≡_, refl, subst}
-use mathlib.Core.Bool.{Bool, true, cond, not, _&&_, _||_, and-eq-true-iff}
+use mathlib.Core.Bool.{true, cond, not, _&&_, _||_, and-eq-true-iff}
 use mathlib.Core.List.{List, [], _∷_}
-use Prim.Native.Nat.{ℕ, _/_, _≤_, _<_}
+use Prim.Native.Nat.{ℕ, _/_, _<_}
 use native.Mathlib.Nat.{mod-lt}
 use native.Mathlib.Omega.{arith}
 use lib.Dec.{eqb, ltb, leb, lit<}
-use lib.ListN.{length, getD, take, drop}
+use lib.ListN.{length, take, drop}
 use borrow.Author.Tests.{eqb-true, ltb-true, leb-false}
 use Rattle.plan.specs.declared.data.Plan.{Plan}
 use Rattle.plan.specs.Data.{setAt, linkAt}
@@ -23,7 +23,7 @@ use Rattle.area_links.specs.declared.LinkRecord.{LinkRecord}
 use Rattle.area_links.specs.LinkRecords.{recordAt}
 use Rattle.wire.specs.declared.header.HeaderRead.{HeaderRead}
 use Rattle.wire.specs.declared.header.HeaderRead.the-variants as Read
-use Rattle.wire.specs.Header.{fromLow, headerOf, readHeader, Octets}
+use Rattle.wire.specs.Header.{fromLow, headerOf, Octets}
 use Rattle.wire_messages.specs.declared.management.Message.{Message}
 use Rattle.wire_messages.specs.declared.management.Message.the-variants.{COO, COA, CBD, CBA, ECO, ECA, TFP, TFA, RST}
 use Rattle.wire_messages.specs.declared.management.MessageRead.{MessageRead}
@@ -57,7 +57,7 @@ use Rattle.discrimination.specs.Discrimination.{managed, ours, fromLinkBy, from
 use Rattle.node.specs.declared.call.Event.{Event}
 use Rattle.node.specs.declared.call.Event.the-variants.{IntoService, Failure, Send, Acknowledgement, Received, FromHost, T1, T2, T3, T4, T6, T8, T10}
 use Rattle.promise_runs.proofs.Outcomes.{by-test, rows-passed}
-use Rattle.promise_contents.specs.Made.{New, Nothing, User, Made, labelTo, octetsMade, DraftInRange, Understood, newBy, newOf}
+use Rattle.promise_contents.specs.Made.{New, Nothing, User, Made, labelTo, DraftInRange, Understood, newBy, newOf}
 use Rattle.promise_contents.specs.Given.{givesBy, gives}
 
 -- a link's last received number

@@ -13,9 +13,8 @@ use Rattle.replies.specs.Reply.{done}
 use Rattle.replies.specs.Areas.{Areas, areas, Outcome, outcome, judged}
 use Rattle.lookup.specs.Lookup.{slcOf, adjacentOf}
 use Rattle.management_making.specs.Make.{Held, heldIn, withMade, makesReply}
-use Rattle.changeover_cuts.specs.Cuts.{cutNone, cutUnknown}
+use Rattle.changeover_cuts.specs.Cuts.{cutNone}
 use Rattle.changeover_ending.specs.End.{outOfService}
-use Rattle.area_links.specs.LinkRecords.{recordAt}
 use Rattle.changeover_failure.specs.Failure.{stateAt, orderOf}
 use Rattle.changeover.specs.Fail.{openFailed, failed}
 use Rattle.changeover_failure.specs.Failure as Failure
@@ -60,9 +59,8 @@ module _ (plan : Plan) (a : Areas) (octets : List ℕ) (all : length (a .rows) �
   change-ends-kept : (link timer : ℕ) → KeptBy a octets (Change.expired plan a link timer)
   unfolding Change.expired
   change-ends-kept link timer =
-      let parts = cutUnknown (recordAt (a .links) link) in
-      judged-kept a octets (Overdue.replyOf plan (a .links) link timer (a .reports)) (outOfService plan a link parts)
-      (out-kept a octets plan a (kept-none now) link parts)
+      judged-kept a octets (Overdue.replyOf plan (a .links) link timer (a .reports)) (outOfService plan a link cutNone)
+      (out-kept a octets plan a (kept-none now) link cutNone)
 
   -- a link comes into service: its CBD is written
   declared-kept : (link : ℕ) (from : Sources)

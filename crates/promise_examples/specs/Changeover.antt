@@ -1,10 +1,9 @@
 -- The node of the examples D to J: two links of one set, link 0 changing and link 1 open. The messages of link 0's queue, and their
 -- places in the store, go by their names, and so do their arrival numbers.
-use Prim.Native.Nat.{ℕ, zero, suc, _+_, _*_}
-use mathlib.Core.Bool.{false, cond}
+use Prim.Native.Nat.{ℕ}
+use mathlib.Core.Bool.{false}
 use mathlib.Core.List.{List, [], _∷_}
-use lib.Dec.{eqb}
-use lib.ListN.{length, getD, replicate}
+use lib.ListN.{length, replicate}
 use lib.Seq.{sets}
 use Rattle.constants.specs.Constants.{stateChanging}
 use Rattle.area_links.specs.declared.LinkRecord.{LinkRecord}
@@ -52,19 +51,9 @@ endedAt acknowledged sent f messages =
     let links = linksWith acknowledged sent in
     ended (oneSet (0 ∷ 1 ∷ [])) links [] (rowsOf messages) 0 (cutAt (recordAt links 0) f) (holding messages)
 
--- the numbers in so many records of a report area, from one on, that tell a drop for a reason
-abbrev pub droppedFor : ℕ → List ℕ → ℕ → ℕ → List ℕ
-droppedFor reason area from zero = []
-droppedFor reason area from (suc more) =
-    cond (eqb (getD area (2 * from) 0) reason)
-    (getD area (2 * from + 1) 0 ∷ droppedFor reason area (from + 1) more)
-    (droppedFor reason area (from + 1) more)
-
--- what became of the messages: those whose places are given up, retired ones before dropped ones; those reported as dropped, reason 3,
--- and how many reports there are; and those that moved to link 1
+-- what became of the messages: those whose places are given up; how many reports there are; and those that moved to link 1
 pub record Fate : Type 0 where
   pub gone : List ℕ
-  pub dropped : List ℕ
   pub reports : ℕ
   pub moved : List ℕ
 
@@ -72,7 +61,6 @@ abbrev pub fateOf : State → Fate
 fateOf now =
     record {
       gone = queue (now .queues .spans) (now .queues .rings) 33;
-      dropped = droppedFor 3 (now .log .area) 0 (now .log .count);
       reports = now .log .count;
       moved = queue (now .queues .spans) (now .queues .rings) 1;
     }
@@ -80,9 +68,4 @@ fateOf now =
 -- some messages are retired and the rest moves, and none is dropped
 infix 25 retires_moves_
 abbrev pub retires_moves_ : List ℕ → List ℕ → Fate
-retires retired moves moved = record { gone = retired; dropped = []; reports = 0; moved = moved }
-
--- some messages are dropped and the rest moves
-infix 25 drops_moves_
-abbrev pub drops_moves_ : List ℕ → List ℕ → Fate
-drops dropped moves moved = record { gone = dropped; dropped = dropped; reports = length dropped; moved = moved }
+retires retired moves moved = record { gone = retired; reports = 0; moved = moved }

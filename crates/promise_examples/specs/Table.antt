@@ -9,7 +9,7 @@ use Rattle.wire_messages.specs.declared.management.Message.the-variants.{COO}
 use Rattle.wire_writing.specs.Writing.{octetsOf}
 use Rattle.route_list.specs.RouteList.{linkOf}
 use Rattle.promise_examples.specs.Set.{inStates, oneSet}
-use Rattle.promise_examples.specs.Changeover.{endedAt, fateOf, retires_moves_, drops_moves_}
+use Rattle.promise_examples.specs.Changeover.{endedAt, fateOf, retires_moves_}
 
 -- the letters that the paper gives its examples
 pub data Letter : Type 0 where
@@ -61,14 +61,14 @@ table =
     ∷ row E (fateOf (endedAt 2 4 2 (3 ∷ 4 ∷ 5 ∷ 6 ∷ a ∷ b ∷ [])) ≡ retires [] moves (3 ∷ 4 ∷ 5 ∷ 6 ∷ a ∷ b ∷ []))
     -- "F: F = 6 moves a, b." (R191)
     ∷ row F (fateOf (endedAt 2 4 6 (3 ∷ 4 ∷ 5 ∷ 6 ∷ a ∷ b ∷ [])) ≡ retires (3 ∷ 4 ∷ 5 ∷ 6 ∷ []) moves (a ∷ b ∷ []))
-    -- "G: F = 7 drops 3 to 6, moves a, b." (R192)
-    ∷ row G (fateOf (endedAt 2 4 7 (3 ∷ 4 ∷ 5 ∷ 6 ∷ a ∷ b ∷ [])) ≡ drops (3 ∷ 4 ∷ 5 ∷ 6 ∷ []) moves (a ∷ b ∷ []))
+    -- "G: F = 7", of which a later request says that "example G moves 3 to 6, a and b" (R192, R238)
+    ∷ row G (fateOf (endedAt 2 4 7 (3 ∷ 4 ∷ 5 ∷ 6 ∷ a ∷ b ∷ [])) ≡ retires [] moves (3 ∷ 4 ∷ 5 ∷ 6 ∷ a ∷ b ∷ []))
     -- "H: acknowledged 126, sent 127, 0, 1; F = 127 moves 0, 1." (R193)
     ∷ row H (fateOf (endedAt 126 3 127 (127 ∷ 0 ∷ 1 ∷ [])) ≡ retires (127 ∷ []) moves (0 ∷ 1 ∷ []))
-    -- "I: same, F = 125 not in range." (R194): so the sent ones are dropped
-    ∷ row I ((inRange 128 126 3 125 ≡ false) × (fateOf (endedAt 126 3 125 (127 ∷ 0 ∷ 1 ∷ [])) ≡ drops (127 ∷ 0 ∷ 1 ∷ []) moves []))
+    -- "I: same, F = 125 not in range." (R194): so all three move (R235)
+    ∷ row I ((inRange 128 126 3 125 ≡ false) × (fateOf (endedAt 126 3 125 (127 ∷ 0 ∷ 1 ∷ [])) ≡ retires [] moves (127 ∷ 0 ∷ 1 ∷ [])))
     -- "J: empty queue, acknowledged 127, F = 0: nothing dropped." (R195)
-    ∷ row J (fateOf (endedAt 127 0 0 []) ≡ drops [] moves [])
+    ∷ row J (fateOf (endedAt 127 0 0 []) ≡ retires [] moves [])
     -- "Three links. K: SLS 4, link 1 out, goes to 2." (R196)
     ∷ row K (linkOf (inStates (2 ∷ 0 ∷ 2 ∷ [])) [] (oneSet (0 ∷ 1 ∷ 2 ∷ [])) 0 4 ≡ 2)
     -- "L: SLS 5, link 2 out, goes to 0." (R197)

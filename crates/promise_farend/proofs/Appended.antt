@@ -67,16 +67,22 @@ module _ (s : History) where
 
 -- over a run of calls
 module _ (plan : Plan) (link : ℕ) where
-  pub run-grows : (calls : List Call) (m : Memory) (s : History) → GoesOn plan calls m link → Grows s (historyIn plan calls m link s)
-  unfolding historyIn historyBy GoesOn
-  run-grows [] m s goes = grows-none s
-  run-grows (call ∷ later) m s goes =
+  -- a call that doesn't begin the history anew
+  pub call-grows : (call : Call) (m : Memory) (s : History) → begins link (isDone (resultOf plan call m)) (viewOf (call .event)) ≡ false
+      → Grows s (historyBy plan call m link s)
+  unfolding historyBy
+  call-grows call m s goes =
       let a = lent call m .areas in
       let r = resultOf plan call m in
       let now = eventBy plan a link r s (viewOf (call .event)) in
+      grows-on s now (historyBy plan call m link s) (event-grows s plan a link r (viewOf (call .event)) goes) (grows-queued now (putBy a link r))
+
+  pub run-grows : (calls : List Call) (m : Memory) (s : History) → GoesOn plan calls m link → Grows s (historyIn plan calls m link s)
+  unfolding historyIn GoesOn
+  run-grows [] m s goes = grows-none s
+  run-grows (call ∷ later) m s goes =
       let after = historyBy plan call m link s in
-      grows-on s after (historyIn plan later (called plan call m) link after)
-      (grows-on s now after (event-grows s plan a link r (viewOf (call .event)) (goes .0)) (grows-queued now (putBy a link r)))
+      grows-on s after (historyIn plan later (called plan call m) link after) (call-grows call m s (goes .0))
       (run-grows later (called plan call m) after (goes .1))
 
   -- a run behind another

@@ -42,7 +42,7 @@ module _ (m : Memory) (whole : Whole m) (one : length (m .areas .arrivals) ≡ 1
   fresh-out : (recordAt (fresh m .areas .links) link .state ≡ 0 → ⊥) → ⊥
   fresh-out up = up (ap (λ (k : LinkRecord). k .state) (fresh-record (m .areas .links) (whole .links-long) link h))
 
-  so-far : SoFar link (ran plan calls (fresh m)) history (goneIn plan calls (fresh m) nothingGone)
+  pub so-far : SoFar link (ran plan calls (fresh m)) history (goneIn plan calls (fresh m) nothingGone)
   unfolding tally
   so-far =
       run-so-far plan (configured-sound text) link h calls (fresh m) begun nothingGone

@@ -35,7 +35,7 @@ pub record SoFar (link : ℕ) (m : Memory) (s : History) (gone : Gone) : Type 0 
 
 module _ (plan : Plan) (sound : Plan.Sound plan) (link : ℕ) (h : link < 32) where
   -- after a call more
-  call-so-far : (call : Call) (m : Memory) (s : History) (gone : Gone) → SoFar link m s gone
+  pub call-so-far : (call : Call) (m : Memory) (s : History) (gone : Gone) → SoFar link m s gone
       → SoFar link (called plan call m) (historyBy plan call m link s) (goneBy plan call m gone)
   unfolding called historyBy goneBy putOn tally
   call-so-far call m s gone before =

@@ -26,7 +26,7 @@ use Rattle.queue_heads.specs.Head.{Queues, both}
 use Rattle.queue_retiring.specs.Leave.{State, state, retired}
 use Rattle.numbers.specs.Numbers.{oneMore, upTo, leftSent}
 use Rattle.management_making.specs.Make.{Held, heldIn, withHeld, withMade, makesReply}
-use Rattle.changeover_cuts.specs.Cuts.{cutNone, cutUnknown}
+use Rattle.changeover_cuts.specs.Cuts.{cutNone}
 use Rattle.changeover_ending.specs.End.{outOfService}
 use Rattle.changeover_failure.specs.Failure.{stateAt, orderOf, changing}
 use Rattle.changeover.specs.Fail.{timerOf, openFailed, failed}
@@ -75,13 +75,13 @@ module _ (plan : Plan) (a : Areas) (octets : List ℕ) (regular : RegularIn a oc
         let odd = not (eqb timer 1 || eqb timer 2) in
         let reply = Overdue.replyOf plan (a .links) link timer (a .reports) in
         by-done (λ (ends : Bool) (o : Outcome). Onward (cond ends link 32) a (o .after)) reply
-        (outOfService plan a link (cutUnknown known))
+        (outOfService plan a link cutNone)
         (refused reply a)
         (λ done.
         let passed = rows-passed (leb 32 link || (odd || short (a .reports))) (not (isLink plan link)) (not (eqb (known .timer) timer)) [] done in
         out-onward a octets regular plan link (link-within link (odd || short (a .reports)) (passed .0))
         (both-false odd (short (a .reports)) (both-false (leb 32 link) (odd || short (a .reports)) (passed .0) .1) .1)
-        (cutUnknown known))
+        cutNone)
         (onward-none 32 a)
 
     -- an open link fails

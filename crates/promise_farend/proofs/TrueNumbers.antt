@@ -16,11 +16,23 @@ use Rattle.area_links.specs.declared.LinkRecord.{LinkRecord}
 use Rattle.area_links.specs.LinkRecords.{recordAt}
 use Rattle.replies.specs.Areas.{Areas}
 use Rattle.changeover_cuts.specs.declared.Cut.{Cut}
-use Rattle.changeover_cuts.specs.Cuts.{cut, cutAt}
+use Rattle.changeover_cuts.specs.Cuts.{cut, cutNone, cutAt}
 use Rattle.promise_runs.proofs.Keeping.{loaded-in-range}
 use Rattle.promise_accounts.specs.Gone.{queueOf}
 use Rattle.promise_farend.specs.History.{History, numberAfter, Serving, InOrder}
 use Rattle.promise_farend.specs.FarEnd.{tookOf, Honest, Truly}
+
+-- the far end took what was acknowledged, and some first of what is still queued
+pub took-is : (a : Areas) (link : ℕ) (s : History) → InOrder a link s → (taken : ℕ) → Honest s taken
+    → tookOf s taken ≡ s .acknowledged ++ take (taken - length (s .acknowledged)) (queueOf a link)
+took-is a link s order taken honest =
+    let so-far : ℕ = length (s .acknowledged) in
+    let here : so-far + (taken - so-far) ≡ taken = omega (arith, honest .acknowledged-taken) in
+    ap (take taken) (order .sent-in-order)
+    ∙ take-take taken (length (s .sent)) (s .queued) (honest .taken-sent)
+    ∙ ap (take taken) (order .history-is)
+    ∙ ap (λ (n : ℕ). take n (s .acknowledged ++ queueOf a link)) (sym here)
+    ∙ take-append-add (s .acknowledged) (queueOf a link) (taken - so-far)
 
 module _ (a : Areas) (link : ℕ) (s : History) (serving : Serving a link s) where
   abbrev known : LinkRecord
@@ -61,16 +73,9 @@ module _ (a : Areas) (link : ℕ) (s : History) (serving : Serving a link s) whe
       let to = honest .taken-sent in
       let on = true-in-range taken from to in
       let far : ℕ = distance 128 (known .acknowledged) (numberAfter taken) in
-      let is : cutAt known (numberAfter taken) ≡ cut far 0 3 = ap (λ (t : Bool). cond t (cut far 0 3) (cut 0 (known .sent) 3)) on in
+      let is : cutAt known (numberAfter taken) ≡ cut far 0 = ap (λ (t : Bool). cond t (cut far 0) cutNone) on in
       let retired : cutAt known (numberAfter taken) .retired ≡ taken - so-far = ap (λ (c : Cut). c .retired) is ∙ lies-on taken from to in
-      let here : so-far + (taken - so-far) ≡ taken = omega arith in
-      let took : tookOf s taken ≡ s .acknowledged ++ take (taken - so-far) (queueOf a link) =
-      ap (take taken) (order .sent-in-order)
-      ∙ take-take taken (length (s .sent)) (s .queued) to
-      ∙ ap (take taken) (order .history-is)
-      ∙ ap (λ (n : ℕ). take n (s .acknowledged ++ queueOf a link)) (sym here)
-      ∙ take-append-add (s .acknowledged) (queueOf a link) (taken - so-far)
-      in
+      let took = took-is a link s order taken honest in
       record {
         in-range = on;
         none-dropped = ap (λ (c : Cut). c .dropped) is;

@@ -74,14 +74,14 @@ module _
   one = with (now .log) (retired link (parts .retired) (now .queues))
 
   abbrev two : State
-  two = dropped rows link (parts .reason) (parts .dropped) one
+  two = dropped rows link 2 (parts .dropped) one
 
   -- what is told of those dropped, and of all
   abbrev drops : List Report
-  drops = dropsFor (parts .reason) rows next
+  drops = dropsFor 2 rows next
 
   drops-long : length drops ≡ length next
-  drops-long = length-map next (λ (slot : ℕ). report (parts .reason) (arrivalOf rows slot))
+  drops-long = length-map next (λ (slot : ℕ). report 2 (arrivalOf rows slot))
 
   abbrev tells : List Report
   tells = drops ++ strays goes rows last
@@ -94,7 +94,7 @@ module _
   to-two : Passed link rows octets last (λ (other : ℕ). []) drops one two
   to-two =
       subst (λ (l : List ℕ). Passed link rows octets l (λ (other : ℕ). []) drops one two) behind
-      (passed-dropped link rows octets within (parts .reason) (parts .dropped) kept one (to-one .sound) (to-one .leaves)
+      (passed-dropped link rows octets within 2 (parts .dropped) kept one (to-one .sound) (to-one .leaves)
       (omega (arith, long, length-drop (parts .retired) slots)))
 
   -- the rest move

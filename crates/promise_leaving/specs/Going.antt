@@ -1,4 +1,4 @@
--- What becomes of the queue of a link that is out: its first messages are retired, the next are dropped for a reason, and the rest
+-- What becomes of the queue of a link that is out: its first messages are retired, the next are dropped, and the rest
 -- move to other links, each in its place; one with no route is dropped too.
 use mathlib.Core.Path.{_≡_}
 use mathlib.Core.Bool.{Bool, cond, not, _&&_}
@@ -38,7 +38,7 @@ dropsFor reason rows slots = map (λ (slot : ℕ). report reason (arrivalOf rows
 abbrev pub slotsOf : Queues → ℕ → List ℕ
 slotsOf queues ring = queue (queues .spans) (queues .rings) ring
 
--- "messages up to F are retired" (R125), the next are dropped: "sent ones are dropped" (R126)
+-- "messages up to F are retired" (R125), the next are dropped: "sent ones dropped" (R127)
 abbrev pub droppedPart : Cut → List ℕ → List ℕ
 droppedPart parts slots = take (parts .dropped) (drop (parts .retired) slots)
 
@@ -50,10 +50,10 @@ rest parts slots = drop (parts .retired + parts .dropped) slots
 abbrev pub gained : (ℕ → ℕ) → List ℕ → Cut → List ℕ → ℕ → List ℕ
 gained goes rows parts slots link = map (arrivalOf rows) (going goes link (rest parts slots))
 
--- what is told of it: those dropped for the cut's reason, and behind them those of the rest that have no route
+-- what is told of it: those "dropped, reason 2" (R127, R236), and behind them those of the rest that have no route
 abbrev pub dropsTold : (ℕ → ℕ) → List ℕ → Cut → List ℕ → List Report
 dropsTold goes rows parts slots =
-    dropsFor (parts .reason) rows (droppedPart parts slots) ++ dropsFor 1 rows (stranded goes (rest parts slots))
+    dropsFor 2 rows (droppedPart parts slots) ++ dropsFor 1 rows (stranded goes (rest parts slots))
 
 -- what holds when the queue of an out link has been cleared: messages are named by their arrival numbers, first to last
 pub record Cleared (plan : Plan) (links marks rows : List ℕ) (link : ℕ) (parts : Cut) (before after : State) : Type 0 where

@@ -1,9 +1,9 @@
 -- A new message stands behind those that were queued before: the first messages of every queue stay the same.
 -- Assumes nothing.
 use mathlib.Core.Path.{_≡_, refl, sym, ap, ap₂, _∙_}
-use mathlib.Core.Bool.{true, false}
+use mathlib.Core.Bool.{true}
 use mathlib.Core.List.{List, [], _∷_, _++_, map, append-nil}
-use Prim.Native.Nat.{ℕ, zero, suc, _≤_, _<_}
+use Prim.Native.Nat.{ℕ, suc, _≤_, _<_}
 use native.Mathlib.Omega.{arith}
 use lib.Dec.{eqb}
 use lib.ListN.{length, getD, take, length-map}
@@ -13,13 +13,12 @@ use borrow.Table.Elements.{map-app}
 use borrow.Table.Steps.{cases}
 use Rattle.plan.proofs.Split.{alike}
 use Rattle.area_slots.specs.SlotRows.{withSlot}
-use Rattle.area_slots.specs.declared.Slot.{Slot}
-use Rattle.queue_rings.specs.Ring.{countOf, queue, spansTaken, spansPut, ringsPut}
+use Rattle.queue_rings.specs.Ring.{countOf, queue, spansTaken}
 use Rattle.queue_rings.proofs.Queues.{queue-length, taken-other, put-queue, put-other}
 use Rattle.queue_slots.specs.Message.{fits, userRows, managementRows}
 use Rattle.queue_slots.specs.Message as Message
 use Rattle.queue_store.specs.Sound.{Sound}
-use Rattle.queue_heads.specs.Head.{Queues, both, headOf, moved}
+use Rattle.queue_heads.specs.Head.{Queues, headOf, moved}
 use Rattle.queue_joining.specs.Queue.{nextOf, userReply, userQueues, rowsWithUser, managementReply, managementQueues, rowsWithManagement}
 use Rattle.promise_ledger.specs.Held.{arrivalOf, numbers}
 use Rattle.promise_ledger.proofs.Balance.{moved-some, head-long, head-room}

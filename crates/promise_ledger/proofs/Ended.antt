@@ -6,6 +6,7 @@ use mathlib.Core.Bool.{Bool, false}
 use mathlib.Core.List.{List, []}
 use Prim.Native.Nat.{ℕ, _+_, _≤_, _<_}
 use native.Mathlib.Omega.{arith}
+use lib.Dec.{lit<}
 use lib.ListN.{take}
 use borrow.Author.Tests.{ltb-false}
 use Rattle.plan.specs.declared.data.Plan.{Plan}
@@ -26,7 +27,7 @@ use Rattle.promise_ledger.proofs.Told.{changes-even}
 use Rattle.promise_ledger.proofs.Gone.{Ready, Even, retired-even, even-on, dropped-even}
 use Rattle.promise_ledger.proofs.Moving.{moved-even}
 
-module _ (test : ℕ → Bool) (rows octets : List ℕ) (link : ℕ) (h : link < 32) (parts : Cut) (reason : parts .reason < 4) where
+module _ (test : ℕ → Bool) (rows octets : List ℕ) (link : ℕ) (h : link < 32) (parts : Cut) where
   abbrev within : link < 33
   within = omega arith
 
@@ -45,8 +46,8 @@ module _ (test : ℕ → Bool) (rows octets : List ℕ) (link : ℕ) (h : link <
       → Even test rows octets link (left now) (cleared plan links marks rows link parts now)
   unfolding cleared
   cleared-even plan links marks now ready =
-      let next : State = dropped rows link (parts .reason) (parts .dropped) (left now) in
-      let drops = dropped-even test rows octets link within (parts .reason) reason (parts .dropped) (left now) (left-ready now ready) in
+      let next : State = dropped rows link 2 (parts .dropped) (left now) in
+      let drops = dropped-even test rows octets link within 2 (lit< tt) (parts .dropped) (left now) (left-ready now ready) in
       even-on test rows octets link within (left now) next (cleared plan links marks rows link parts now) drops
       (moved-even test rows octets link within plan links marks next (drops .ready))
 
@@ -92,8 +93,7 @@ module _
     (link : ℕ)
     (h : link < 32)
     (long : short (a .reports) ≡ false)
-    (parts : Cut)
-    (reason : parts .reason < 4) where
+    (parts : Cut) where
   -- before it the reports tell nothing
   abbrev start : State
   start = state (a .spans) (a .rings) (a .reports) 0
@@ -113,7 +113,7 @@ module _
   out-even held =
       omega (
         arith,
-        ended-even test (a .rows) octets link h parts reason start start-ready held plan (a .links) (a .marks),
+        ended-even test (a .rows) octets link h parts start start-ready held plan (a .links) (a .marks),
         none-told test (a .reports),
       )
 
@@ -121,4 +121,4 @@ module _
   pub out-kinds : Kinds (a .spans) (a .rings)
       → Kinds (outOfService plan a link parts .after .spans) (outOfService plan a link parts .after .rings)
   unfolding outOfService
-  out-kinds = ended-kinds test (a .rows) octets link h parts reason start start-ready plan (a .links) (a .marks)
+  out-kinds = ended-kinds test (a .rows) octets link h parts start start-ready plan (a .links) (a .marks)

@@ -6,7 +6,7 @@ use mathlib.Core.List.{List, [], _∷_, _++_}
 use Prim.Native.Nat.{ℕ, _+_, _%_, _<_}
 use native.Mathlib.Nat.{mod-mod}
 use native.Mathlib.Omega.{arith}
-use lib.Dec.{eqb, ltb, leb}
+use lib.Dec.{eqb, ltb, leb, lit<}
 use lib.ListN.{length}
 use borrow.Author.Tests.{lt-ltb, eqb-true}
 use borrow.Table.Steps.{cases}
@@ -34,7 +34,7 @@ use Rattle.numbers.specs.Taken.{withTaken, takenBy}
 use Rattle.sending.specs.Send as Send
 use Rattle.acknowledging.specs.Acknowledge as Acknowledge
 use Rattle.changeover_cuts.specs.declared.Cut.{Cut}
-use Rattle.changeover_cuts.specs.Cuts.{cutNone, cutUnknown}
+use Rattle.changeover_cuts.specs.Cuts.{cutNone}
 use Rattle.changeover_ending.specs.End.{linksOut, outOfService}
 use Rattle.changeover_failure.specs.Failure.{stateAt, changing}
 use Rattle.changeover_failure.specs.Failure as Failure
@@ -163,22 +163,22 @@ module _ (plan : Plan) (a : Areas) where
   module _ (octets : List ℕ) (regular : RegularIn a octets) where
     -- a link goes out, from areas with the same links and marks
     out-accesses : (b : Areas) → RegularIn b octets → b .links ≡ a .links → b .marks ≡ a .marks → (link : ℕ) → link < 32
-        → short (b .reports) ≡ false → (parts : Cut) → parts .reason < 4 → AccessesBy (outOfService plan b link parts)
+        → short (b .reports) ≡ false → (parts : Cut) → AccessesBy (outOfService plan b link parts)
     unfolding endingTold outOfService
-    out-accesses b fine same-links same-marks link h wide parts reason =
+    out-accesses b fine same-links same-marks link h wide parts =
         let o : Outcome = outOfService plan b link parts in
         let ending : Ending = record { ends = true; from = b; link = link; parts = parts; answers = false; path = 32 } in
         let out : List ℕ = linksOut (b .links) link in
         let slots : List ℕ = slotsOf (both (b .spans) (b .rings)) link in
         let cut : List ℕ = droppedPart parts slots in
         let stray : List ℕ = stranded (goesTo plan out (b .marks) (b .rows)) (rest parts slots) in
-        let none : accessesIn (dropsFor (parts .reason) (b .rows) cut ++ dropsFor 1 (b .rows) stray) ≡ [] =
-        accesses-append (dropsFor (parts .reason) (b .rows) cut) (dropsFor 1 (b .rows) stray)
-        ∙ ap₂ (λ (l : List Report) (m : List Report). l ++ m) (drops-none (parts .reason) reason (b .rows) cut)
+        let none : accessesIn (dropsFor 2 (b .rows) cut ++ dropsFor 1 (b .rows) stray) ≡ [] =
+        accesses-append (dropsFor 2 (b .rows) cut) (dropsFor 1 (b .rows) stray)
+        ∙ ap₂ (λ (l : List Report) (m : List Report). l ++ m) (drops-none 2 (lit< tt) (b .rows) cut)
         (drops-none 1 (omega arith) (b .rows) stray)
         in
         ap accessesIn (ending-told plan ending (o .after) (o .answer .reports) (out-exactly plan b octets fine true false 32 link h wide parts))
-        ∙ accesses-append (dropsFor (parts .reason) (b .rows) cut ++ dropsFor 1 (b .rows) stray)
+        ∙ accesses-append (dropsFor 2 (b .rows) cut ++ dropsFor 1 (b .rows) stray)
         (accessChanges plan (b .links) (b .marks) out (b .marks))
         ∙ ap₂ (λ (l : List Report) (m : List Report). l ++ m) none
         (accesses-all plan (isAccessible plan (b .links) (b .marks)) (isAccessible plan out (b .marks)) (given plan) 0)
@@ -209,8 +209,7 @@ module _ (plan : Plan) (a : Areas) where
         (λ e.
         out-accesses a regular refl refl link (link-within link (short (a .reports)) (passed .0))
         (both-false (leb 32 link) (short (a .reports)) (passed .0) .1)
-        cutNone
-        (omega arith))
+        cutNone)
         (λ e.
         let open-there : opened ≡ true =
         cases opened (λ yes. yes) (λ no. absurd (true≢false (sym (ap₂ (λ (s t : Bool). not (s || t)) no e) ∙ passed .2)))
@@ -230,8 +229,7 @@ module _ (plan : Plan) (a : Areas) where
         let passed = rows-passed (leb 32 link || (odd || short (a .reports))) (not (isLink plan link)) (not (eqb (known .timer) timer)) [] done in
         out-accesses a regular refl refl link (link-within link (odd || short (a .reports)) (passed .0))
         (both-false odd (short (a .reports)) (both-false (leb 32 link) (odd || short (a .reports)) (passed .0) .1) .1)
-        (cutUnknown known)
-        (omega arith))
+        cutNone)
 
     -- T6: its clock is no mark
     t6-accesses : (x : ℕ) → AccessesBy (expiredT6 plan a x)
@@ -347,8 +345,7 @@ module _ (plan : Plan) (a : Areas) where
             (λ ends.
             out-accesses with-answer (answer-regular a octets regular plan step) (left-links a plan step) (left-marks a plan step) (step .link) (bears ends .0)
             (ap short (left-reports a plan step) ∙ wide)
-            (step .parts)
-            (bears ends .1 .1))
+            (step .parts))
             (λ stays.
             same-accesses (outcome (done 0) with-answer) refl (λ link. ap (λ (l : List ℕ). carries l link) (left-links a plan step))
             (λ d rank. ap (λ (l : List ℕ). isMarked l d rank) (left-marks a plan step)))))

@@ -20,7 +20,8 @@ use Rattle.route_serving.specs.State.{carries, isMarked}
 use Rattle.route_choice.specs.Which.{none, chosen}
 use Rattle.route_ways.specs.Way.{linkFor}
 use Rattle.route_access.specs.Change.{isAccessible, codeOf}
-use Rattle.promise_runs.proofs.Records.{Rewritten, state-read}
+use Rattle.changeback_service.proofs.Carries.{state-read}
+use Rattle.promise_runs.proofs.Records.{Rewritten}
 use Rattle.promise_ledger.specs.Reported.{Report}
 use Rattle.promise_leaving.specs.Going.{change, changes}
 use Rattle.promise_reports.specs.Tells.{accessChanges}

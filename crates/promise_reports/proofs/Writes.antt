@@ -9,7 +9,6 @@ use lib.ListN.{length}
 use Rattle.plan.specs.declared.data.Plan.{Plan}
 use Rattle.plan.specs.Find.{placeOf, given}
 use Rattle.area_flags.specs.Flags.{withFlag}
-use Rattle.area_links.specs.LinkRecords.{recordAt}
 use Rattle.constants.specs.Constants.{t6}
 use Rattle.wire.specs.declared.header.Label.{Label}
 use Rattle.wire_messages.specs.declared.management.Message.{Message}
@@ -24,7 +23,7 @@ use Rattle.queue_retiring.specs.Leave.{State, state, droppedOne, dropped}
 use Rattle.queue_moving.specs.Move.{pointOf, goesTo, movedOne, movedAll, apart}
 use Rattle.rerouting_releasing.specs.Release.{releasedOne, released}
 use Rattle.changeover_cuts.specs.declared.Cut.{Cut}
-use Rattle.changeover_cuts.specs.Cuts.{cutNone, cutUnknown}
+use Rattle.changeover_cuts.specs.Cuts.{cutNone}
 use Rattle.changeover_ending.specs.End.{linksOut, cleared, ended, outOfService}
 use Rattle.changeover.specs.Fail.{failed, openFailed}
 use Rattle.changeover_failure.specs.Failure.{stateAt}
@@ -134,7 +133,7 @@ module _ (P : Log → Type 0) (one-more : (written : Log) (kind number : ℕ) �
   unfolding ended cleared
   ended-kept plan links marks rows link parts now h =
       changes-kept plan (isAccessible plan links marks) (isAccessible plan (linksOut links link) marks) (given plan) 0 _
-      (moved-kept rows link plan (linksOut links link) marks _ (dropped-kept rows link (parts .reason) (parts .dropped) _ h))
+      (moved-kept rows link plan (linksOut links link) marks _ (dropped-kept rows link 2 (parts .dropped) _ h))
 
   -- the log of an outcome
   abbrev KeptBy : Outcome → Type 0
@@ -172,7 +171,7 @@ module _ (P : Log → Type 0) (one-more : (written : Log) (kind number : ℕ) �
     timer-kept : (link timer : ℕ) → KeptBy (Changeover.expired plan a link timer)
     unfolding Changeover.expired
     timer-kept link timer =
-        judged-kept (Overdue.replyOf plan (a .links) link timer (a .reports)) _ (out-kept a refl link (cutUnknown (recordAt (a .links) link)))
+        judged-kept (Overdue.replyOf plan (a .links) link timer (a .reports)) _ (out-kept a refl link cutNone)
 
     -- T6, and T10
     t6-kept : (x : ℕ) → KeptBy (expiredT6 plan a x)

@@ -20,9 +20,9 @@ use Rattle.node.specs.declared.call.Event.{Event}
 use Rattle.node.specs.declared.call.Event.the-variants.{IntoService, Failure, Send, Acknowledgement, Received, FromHost, T1, T2, T3, T4, T6, T8, T10}
 use Rattle.node.specs.View.{viewOf}
 use Rattle.node.specs.Memory.{Result}
-use Rattle.promise_ledger.specs.Reported.{Report, reportsIn}
+use Rattle.promise_ledger.specs.Reported.{Report}
 use Rattle.promise_leaving.specs.Apart.{letGo}
-use Rattle.promise_leaving.specs.Going.{going, stranded, dropsFor, slotsOf, dropsTold, changes}
+use Rattle.promise_leaving.specs.Going.{stranded, dropsFor, slotsOf, dropsTold, changes}
 use Rattle.promise_accounts.specs.Ending.{Ending, endingOf}
 
 -- "pause or resume, by code, of each destination whose access changed" (R139), from some links and marks to others

@@ -15,7 +15,7 @@ use Rattle.route_choice.specs.Which.{none}
 use Rattle.route_choice.proofs.Loss.{lost-state}
 use Rattle.route_choice.proofs.Used.{chosen-is}
 use Rattle.route_ways.specs.Way.{linkFor, wayOf}
-use Rattle.promise_runs.proofs.Records.{state-read}
+use Rattle.changeback_service.proofs.Carries.{state-read}
 
 module _ (plan : Plan) (links marks : List ℕ) (need : Need) where
   -- an out link doesn't serve

@@ -15,7 +15,7 @@ use Rattle.replies.specs.Areas.{Areas, Outcome}
 use Rattle.reports.specs.Report.{short}
 use Rattle.lookup.specs.Lookup.{isLink}
 use Rattle.management_making.specs.Make.{isMade, withMade}
-use Rattle.changeover_cuts.specs.Cuts.{cutNone, cutUnknown}
+use Rattle.changeover_cuts.specs.Cuts.{cutNone}
 use Rattle.changeover_ending.specs.End.{outOfService}
 use Rattle.changeover_failure.specs.Failure.{stateAt, replyOf, orderOf, changing}
 use Rattle.changeover.specs.Fail.{timerOf, openFailed, failed}
@@ -88,4 +88,4 @@ module _ (a : Areas) (octets : List ℕ) (regular : RegularIn a octets) (plan : 
       if-judged octets (Overdue.replyOf plan (a .links) link timer (a .reports)) _ a regular
       (λ done.
       let passed = rows-passed (leb 32 link || other) (not (isLink plan link)) (not (eqb (known .timer) timer)) [] done in
-      out-regular a octets regular plan link (link-within link other (passed .0)) (cutUnknown known))
+      out-regular a octets regular plan link (link-within link other (passed .0)) cutNone)

@@ -41,10 +41,10 @@ module _
   cleared-kept =
       let few : link < 33 = omega arith in
       let one : State = record { queues = retired link (parts .retired) (now .queues); log = now .log } in
-      let two : State = dropped rows link (parts .reason) (parts .dropped) one in
+      let two : State = dropped rows link 2 (parts .dropped) one in
       let last : State = movedAll plan links marks rows link two in
       let first = left-retired links link rows octets few (parts .retired) (now .queues) sound in
-      let next = left-dropped links link rows octets few (parts .reason) (parts .dropped) one (first .kept .sound) in
+      let next = left-dropped links link rows octets few 2 (parts .dropped) one (first .kept .sound) in
       let end = emptied plan links marks rows octets link few (λ within. out) two (next .kept .sound) in (
         kept-on links link rows octets (now .queues) (one .queues) (last .queues) (first .kept)
             (kept-on links link rows octets (one .queues) (two .queues) (last .queues) (next .kept) (end .kept)),

@@ -1,23 +1,21 @@
 -- The records of links: what is stored of a record, all of it or a number in its word, is loaded, each number by the rest that its word
--- keeps; every other link's is as it was, and the area keeps its length. The state that the chooser reads is the record's.
+-- keeps; every other link's is as it was, and the area keeps its length.
 -- Assumes nothing.
 use mathlib.Core.Path.{_≡_, refl, ap, _∙_}
 use mathlib.Core.Bool.{Bool, true, false, cond}
 use mathlib.Core.List.{List, [], _∷_}
 use Prim.Native.Nat.{ℕ, _%_, _≤_, _<_}
-use native.Mathlib.Nat.{add-zero, mod-mod}
+use native.Mathlib.Nat.{mod-mod}
 use native.Mathlib.Omega.{arith}
 use lib.Dec.{eqb, ltb}
 use lib.ListN.{length, getD}
 use borrow.Author.Tests.{le-ltb}
-use borrow.Table.Steps.{cases}
 use Rattle.area_links.specs.declared.LinkRecord.{LinkRecord}
 use Rattle.area_flags.specs.Flags.{word}
 use Rattle.area_numbers.specs.LinkWords.{withAcknowledged, withReceived, withSent}
 use Rattle.area_links.specs.LinkRecords.{recordOf, recordAt, withRecord}
 use Rattle.area_rows.specs.Rows.{wordAt, withWord}
 use Rattle.area_rows.proofs.Laws.{row-same, row-other, row-length, word-same, word-other, word-length}
-use Rattle.route_serving.specs.State.{stateOf}
 
 -- what is left of a record in its words
 abbrev pub kept : LinkRecord → LinkRecord
@@ -156,7 +154,3 @@ module _ (links : List ℕ) (link acknowledged sent : ℕ) where
         long = two .long ∙ one .long;
         past = λ none. two .past none ∙ one .past none;
       }
-
--- the state that the chooser reads is that of the record
-pub state-read : (links : List ℕ) (link : ℕ) → stateOf links link ≡ recordAt links link .state
-state-read links link = cases (ltb link 32) (λ e. simp (e, add-zero)) (λ e. simp e)

@@ -11,9 +11,6 @@ use Rattle.changeover_ending.proofs.clear.Tie as tie
 retire-requires : tie.Need-retire-requires
 retire-requires c κs = search needs
 
-cast-drop-first : tie.Need-cast-drop-first
-cast-drop-first c = search needs
-
 drop-first-requires : tie.Need-drop-first-requires
 drop-first-requires c κs = search needs
 
@@ -28,7 +25,7 @@ returns c =
     let m = c .before .before .move-all in
     let at-drop = c .before .before .before .before .before .before .before .before in
     let d = at-drop .drop-first in
-    let at-retire = at-drop .before .before .before .before .before in
+    let at-retire = at-drop .before .before .before .before in
     let r = at-retire .retire in
     let a = at-retire .before .before .before .before .args in
     let now = state (a .spans .now) (a .rings .now) (a .reports .now) (a .told) in
@@ -50,7 +47,6 @@ clear-spec =
     tie.close
     (tie.spec
     retire-requires
-    cast-drop-first
     drop-first-requires
     move-all-requires
     same-length

@@ -25,11 +25,8 @@ returns c =
     (areas (a .links .now) (a .marks .now) (a .spans .now) (a .rings .now) (a .rows .now) [] (a .reports .now))
     (a .link) (a .timer) (reply .result) (reply .ensures) (c .before .if1 .taken) (c .plain .result) (c .plain .ensures)
 
-load-link-requires : tie.Need-load-link-requires
-load-link-requires c κs = search needs
-
-cut-unknown-requires : tie.Need-cut-unknown-requires
-cut-unknown-requires c κs = search needs
+cut-none-requires : tie.Need-cut-none-requires
+cut-none-requires c κs = search needs
 
 end-service-requires : tie.Need-end-service-requires
 end-service-requires c κs = search needs
@@ -45,16 +42,14 @@ returns-2 c =
     let at-end = c .before .before .before in
     let end = at-end .end-service in
     let at-cut = at-end .before .before in
-    let cut = at-cut .cut-unknown in
-    let at-load = at-cut .before .before .before .before in
-    let known = at-load .load-link in
-    let at-if = at-load .before .before in
+    let cut = at-cut .cut-none in
+    let at-if = at-cut .before .before .before .before in
     let reply = at-if .before .expire-reply in
     let a = at-if .before .before .before .before .before .args in
     let left = end .last .1 .1 .1 in
     goes-out (planAt (a .plan .now))
     (areas (a .links .now) (a .marks .now) (a .spans .now) (a .rings .now) (a .rows .now) [] (a .reports .now))
-    (a .link) (a .timer) (reply .result) (reply .ensures) (at-if .if1 .left) (known .result) (known .ensures) (cut .result)
+    (a .link) (a .timer) (reply .result) (reply .ensures) (at-if .if1 .left) (cut .result)
     (cut .ensures) (end .result) (left .1 .1 .1 .1 .1 .0) (end .last .1 .0) (left .0) (left .1 .0) (end .ensures)
     (c .done .result) (c .done .ensures)
 
@@ -66,8 +61,7 @@ expire-spec =
     plain-requires
     same-length
     returns
-    load-link-requires
-    cut-unknown-requires
+    cut-none-requires
     end-service-requires
     done-requires
     same-length-2

@@ -1,0 +1,5 @@
+pub mod Given
+pub mod Reasons
+pub mod Resent
+pub mod Twice
+pub mod AtOnce
