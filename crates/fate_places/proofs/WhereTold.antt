@@ -8,7 +8,7 @@ use native.Mathlib.Omega.{arith}
 use lib.Dec.{eqb, ltb}
 use borrow.Author.Tests.{eq-eqb, ltb-true, ltb-false}
 use borrow.Table.Steps.{cases}
-use Rattle.fate_places.specs.Places.{Held, seek, places, messageAt, stands, nowhere, queueOf, dropped, stays, isDropped, whither}
+use Rattle.fate_places.specs.Places.{Held, seek, places, messageAt, stands, nowhere, queueWith, dropped, stays, toldDropped, whither}
 use Rattle.fate_places.proofs.Seek.{finds}
 
 -- what a search for a place yields, if it isn't what is told where there is none, passes
@@ -43,9 +43,9 @@ passes-none test from (suc more) none short e k h below =
 
 -- the four answers apart, by the three tests
 abbrev answer : Bool → ℕ → Bool → ℕ
-answer here other drops = cond here stays (cond (ltb other nowhere) other (cond drops isDropped nowhere))
+answer here other drops = cond here stays (cond (ltb other nowhere) other (cond drops toldDropped nowhere))
 
-not-few : (drops : Bool) → cond drops isDropped nowhere < nowhere → ⊥
+not-few : (drops : Bool) → cond drops toldDropped nowhere < nowhere → ⊥
 not-few true h = omega arith
 not-few false h = omega arith
 
@@ -55,10 +55,10 @@ by-elsewhere false other drops h =
     cases (ltb other nowhere)
     (λ e. (refl, simp e))
     (λ e.
-    let more : cond drops isDropped nowhere < nowhere = simp e at h in
+    let more : cond drops toldDropped nowhere < nowhere = simp e at h in
     absurd (not-few drops more))
 
-not-dropped : (drops : Bool) → cond drops isDropped nowhere ≡ nowhere → drops ≡ false
+not-dropped : (drops : Bool) → cond drops toldDropped nowhere ≡ nowhere → drops ≡ false
 not-dropped true h = absurd (omega arith)
 not-dropped false h = refl
 
@@ -70,7 +70,7 @@ by-nowhere false other drops h =
     let same : other ≡ nowhere = simp e at h in
     absurd (omega (arith, ltb-true other nowhere e)))
     (λ e.
-    let more : cond drops isDropped nowhere ≡ nowhere = simp e at h in
+    let more : cond drops toldDropped nowhere ≡ nowhere = simp e at h in
     (refl, ltb-false other nowhere e, not-dropped drops more))
 
 module _ (h : Held) (reports : List ℕ) (count queue arrival : ℕ) where
@@ -80,10 +80,10 @@ module _ (h : Held) (reports : List ℕ) (count queue arrival : ℕ) where
     pub left : stands h queue arrival ≡ false
 
   pub moved : whither h reports count queue arrival < nowhere → Elsewhere (whither h reports count queue arrival)
-  unfolding whither queueOf
+  unfolding whither queueWith
   moved below =
-      let is = by-elsewhere (stands h queue arrival) (queueOf h arrival) (dropped reports count arrival) below in
-      let other : queueOf h arrival < nowhere = subst (λ (n : ℕ). n < nowhere) (is .1) below in
+      let is = by-elsewhere (stands h queue arrival) (queueWith h arrival) (dropped reports count arrival) below in
+      let other : queueWith h arrival < nowhere = subst (λ (n : ℕ). n < nowhere) (is .1) below in
       subst Elsewhere (sym (is .1))
       (record {
         there = seeks (λ (q : ℕ). stands h q arrival) 0 33 nowhere (λ none. omega (arith, other, none));
@@ -96,9 +96,9 @@ module _ (h : Held) (reports : List ℕ) (count queue arrival : ℕ) where
     pub not-told : dropped reports count arrival ≡ false
 
   pub gone : whither h reports count queue arrival ≡ nowhere → Nowhere
-  unfolding whither queueOf
+  unfolding whither queueWith
   gone e =
-      let is = by-nowhere (stands h queue arrival) (queueOf h arrival) (dropped reports count arrival) e in
+      let is = by-nowhere (stands h queue arrival) (queueWith h arrival) (dropped reports count arrival) e in
       record {
         in-none = λ other below. passes-none (λ (q : ℕ). stands h q arrival) 0 33 nowhere (omega arith) (is .1) other (omega arith) below;
         not-told = is .2;

@@ -41,8 +41,8 @@ abbrev pub nowhere : ℕ
 nowhere = 33
 
 -- the queue that it stands in
-unfoldable pub queueOf : Held → ℕ → ℕ
-queueOf h arrival = seek (λ (queue : ℕ). stands h queue arrival) (λ (queue : ℕ). queue) nowhere 0 33
+unfoldable pub queueWith : Held → ℕ → ℕ
+queueWith h arrival = seek (λ (queue : ℕ). stands h queue arrival) (λ (queue : ℕ). queue) nowhere 0 33
 
 -- whether a record of a report area is a drop of that message: a pause, a resume aren't
 abbrev pub tellsDrop : List ℕ → ℕ → ℕ → Bool
@@ -57,11 +57,11 @@ dropped reports count arrival =
 abbrev pub stays : ℕ
 stays = 34
 
-abbrev pub isDropped : ℕ
-isDropped = 35
+abbrev pub toldDropped : ℕ
+toldDropped = 35
 
 -- where a message is that stood in a queue: it stays there, has another queue now, is reported dropped, or is nowhere
 unfoldable pub whither : Held → List ℕ → ℕ → ℕ → ℕ → ℕ
 whither h reports count queue arrival =
     cond (stands h queue arrival) stays
-    (cond (ltb (queueOf h arrival) nowhere) (queueOf h arrival) (cond (dropped reports count arrival) isDropped nowhere))
+    (cond (ltb (queueWith h arrival) nowhere) (queueWith h arrival) (cond (dropped reports count arrival) toldDropped nowhere))

@@ -77,7 +77,7 @@ fn stands_near(
 
 // The queue that a message stands in, 33 for none.
 fn queue_of(spans: &[u16; 70], rings: &[u8; 8960], rows: &[u64; 2048], arrival: u64) -> u8
-    ensures { λ r. ⌜ r ≡ Places.queueOf (held (now (spans .entry)) (now (rings .entry)) (now (rows .entry))) arrival ⌝ }
+    ensures { λ r. ⌜ r ≡ Places.queueWith (held (now (spans .entry)) (now (rings .entry)) (now (rows .entry))) arrival ⌝ }
 {
     let mut queue = 0u8;
     while queue < 33 {

@@ -21,7 +21,7 @@ fn main() {
 
 // What is asked for is done; answers the status.
 fn replay(options: Options) -> u8 {
-    if options.help {
+    if options.arguments.help {
         return help::write();
     }
     if 0 < options.arguments.fault {

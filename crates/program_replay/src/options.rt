@@ -6,13 +6,11 @@ use text_decimals::decimal::decimal;
 use tool_files::arguments;
 use tool_files::arguments::Arguments;
 use tool_files::arguments::NO_LINE;
-use tool_files::arguments::UNKNOWN;
-use tool_files::arguments::VALUE_MISSING;
-use tool_files::arguments::dashed;
-use tool_files::arguments::past;
+use tool_files::arguments::Word;
+use tool_files::arguments::ends;
+use tool_files::arguments::next_word;
+use tool_files::arguments::settled;
 use tool_files::arguments::unread;
-use tool_files::arguments::with_file;
-use tool_words::lines::number_of;
 
 // The places of words among the arguments are 0 where the word isn't there.
 pub struct Options {
@@ -25,7 +23,6 @@ pub struct Options {
     pub calls: bool,
     pub words: bool,
     pub summary: bool,
-    pub help: bool,
     // The place of the capture's file, and its link type.
     pub capture: usize,
     pub type_of_link: u64,
@@ -41,18 +38,14 @@ const NOT_WITH_ONLY: u64 = 9;
 
 // Word after word, up to the first that is wrong or asks for help.
 pub fn read() -> Options {
-    let count = os::arg_count();
     let mut options = nothing();
-    let mut turns = count;
+    let mut turns = os::arg_count();
     while 0 < turns {
         turns -= 1;
-        if count <= options.arguments.next || ends(options) {
+        if ends(options.arguments) {
             break;
         }
         options = with_word(options);
-    }
-    if ends(options) {
-        return options;
     }
     complete(options)
 }
@@ -66,21 +59,16 @@ fn nothing() -> Options {
         calls: false,
         words: false,
         summary: false,
-        help: false,
         capture: 0,
         type_of_link: 139,
         arguments: unread(),
     }
 }
 
-fn ends(options: Options) -> bool {
-    options.help || 0 < options.arguments.fault
-}
-
 // Whether two files are named, and nothing is asked for that reports alone don't show.
 fn complete(options: Options) -> Options {
     let next = with(options, arguments::complete(options.arguments));
-    if ends(next) {
+    if settled(next.arguments) {
         return next;
     }
     if 0 < options.only && (options.fates || (options.calls || 0 < options.capture)) {
@@ -101,61 +89,44 @@ fn wrong(options: Options, fault: u64, word: usize) -> Options {
 
 // The next word: a file, an option, or an option and its value.
 fn with_word(options: Options) -> Options {
-    let mut area = io::buffer();
-    let at = options.arguments.next;
-    let length = os::arg(at, &mut area);
-    let word = between(&area, 0, length);
-    if options.arguments.ended || !dashed(word) {
-        return with(options, with_file(options.arguments));
-    }
-    let option = number_of(
-        b"--fates\n--calls\n--words\n--summary\n--help\n--\n--from\n--to\n--only\n--pcap\n--link-type\n",
-        word,
+    let word = next_word(
+        options.arguments,
+        b"--fates\n--calls\n--words\n--summary\n--from\n--to\n--only\n--pcap\n--link-type\n",
+        4,
     );
-    if option == 0 {
-        return wrong(options, UNKNOWN, at);
+    let next = with(options, word.arguments);
+    if word.value == 0 {
+        return with_flag(next, word.option);
     }
-    if 6 < option {
-        return with_value(options, option);
-    }
-    with_flag(options, option)
+    with_value(next, word)
 }
 
 fn with_flag(options: Options, option: u64) -> Options {
     let mut next = options;
-    let mut arguments = past(options.arguments, 1);
     match option {
         1 => next.fates = true,
         2 => next.calls = true,
         3 => next.words = true,
         4 => next.summary = true,
-        5 => next.help = true,
-        _ => arguments.ended = true,
+        _ => {}
     }
-    with(next, arguments)
+    next
 }
 
-// The next word is an option with the value behind it.
-fn with_value(options: Options, option: u64) -> Options {
+fn with_value(options: Options, word: Word) -> Options {
     let mut area = io::buffer();
-    let at = options.arguments.next;
-    let behind = past(options.arguments, 1);
-    let place = behind.next;
-    let length = os::arg(place, &mut area);
+    let length = os::arg(word.value, &mut area);
     let value = between(&area, 0, length);
-    if length == 0 || dashed(value) {
-        return wrong(options, VALUE_MISSING, at);
+    let mut next = options;
+    if word.option == 7 {
+        next.only = word.at;
+        return unless(next, same(value, b"reports"), NOT_REPORTS, word.value);
     }
-    let mut next = with(options, past(behind, 1));
-    if option == 9 {
-        next.only = at;
-        return unless(next, same(value, b"reports"), NOT_REPORTS, place);
-    }
-    if option == 10 {
-        next.capture = place;
+    if word.option == 8 {
+        next.capture = word.value;
         return next;
     }
-    with_number(next, option, value, place)
+    with_number(next, word.option, value, word.value)
 }
 
 // `--from`, `--to` or `--link-type`, whose value is a number.
@@ -164,20 +135,17 @@ fn with_number(options: Options, option: u64, value: &[u8], place: usize) -> Opt
     let Number::Value(number) = decimal(value, u64::MAX) else {
         return wrong(options, no_number(option), place);
     };
-    if option == 7 {
-        next.first = number;
-        return next;
+    match option {
+        5 => next.first = number,
+        6 => next.last = number,
+        _ => next.type_of_link = number,
     }
-    if option == 8 {
-        next.last = number;
-        return next;
-    }
-    next.type_of_link = number;
-    unless(next, number == 139 || number == 141, NO_LINK_TYPE, place)
+    let known = option < 7 || (number == 139 || number == 141);
+    unless(next, known, NO_LINK_TYPE, place)
 }
 
 fn no_number(option: u64) -> u64 {
-    if option < 9 { NO_LINE } else { NO_LINK_TYPE }
+    if option < 7 { NO_LINE } else { NO_LINK_TYPE }
 }
 
 fn unless(options: Options, right: bool, fault: u64, place: usize) -> Options {

@@ -42,7 +42,7 @@ pub fn take(
     first: u64,
     page: &[u8],
     readable: bool,
-    counts: &mut [u64; 22],
+    counts: &mut [u64; 21],
 ) -> Outputs {
     if options.summary {
         summary::count(page, counts);
@@ -89,7 +89,7 @@ pub fn fail(outputs: Outputs, what: &[u8]) -> Outputs {
 }
 
 // The run ends: its summary, where one is asked for and can be written; and the capture is closed.
-pub fn end(outputs: Outputs, options: Options, counts: &[u64; 22]) -> u8 {
+pub fn end(outputs: Outputs, options: Options, counts: &[u64; 21]) -> u8 {
     progress::clear(outputs.progress);
     let mut answers = outputs.answers;
     if options.summary && !answers.failed {

@@ -9,20 +9,20 @@ use replay_refusals::put_fault;
 use replay_refusals::put_unreadable;
 use replay_shift::run::Place;
 use replay_shift::run::View;
-use replay_shift::run::run_lines;
 use start::start;
 use std::num::wrapping_add_u64;
 use std::num::wrapping_add_usize;
 use text::part::between;
 use tool_files::complaint::complain_of;
 use tool_files::file::File;
-use tool_files::file::more;
-use tool_files::file::move_to_front;
+use tool_files::file::next_piece;
 use tool_files::file::size;
 use tool_files::progress;
 use tool_files::status;
 use tool_files::target;
 use tool_files::writer::onto;
+use tool_shift::beginning;
+use tool_shift::run_text;
 use tool_words::lines::Entry;
 use tool_words::lines::entry_of;
 
@@ -53,12 +53,7 @@ pub fn run(
     if 0 < made.fault {
         return refuse(options, made.line, made.fault);
     }
-    let begun = opened(
-        options,
-        configuration,
-        between(piece, 0, record.count),
-        record.fd,
-    );
+    let begun = opened(options, configuration, piece, record);
     if begun.status == status::FAILED {
         return status::FAILED;
     }
@@ -76,9 +71,9 @@ pub fn run(
     )
 }
 
-// Where the run writes to: standard output and the file of a capture. Of the record the first octets are given.
-fn opened(options: Options, configuration: &[u8], first: &[u8], record: i32) -> Outputs {
-    let octets = size(record);
+// Where the run writes to: standard output and the file of a capture. Of the record the first piece is read.
+fn opened(options: Options, configuration: &[u8], piece: &[u8; 65536], record: File) -> Outputs {
+    let octets = size(record.fd);
     let mut packets = -1;
     let mut told = status::DONE;
     if 0 < options.capture {
@@ -87,7 +82,7 @@ fn opened(options: Options, configuration: &[u8], first: &[u8], record: i32) -> 
             options.capture,
             true,
             configuration,
-            first,
+            between(piece, 0, record.count),
             octets,
         );
         if packets < 0 {
@@ -118,8 +113,15 @@ fn refuse(options: Options, line: usize, fault: u8) -> u8 {
     status::REFUSED
 }
 
-// Turn after turn: the lines that end in a piece of the record, as far as a page holds what they write. With none left, what a piece cuts goes
-// to the front of the next.
+// Where a run stands: the next line, what is written, how much of the piece is filled, and whether nothing more is run.
+struct Turn {
+    place: Place,
+    outputs: Outputs,
+    filled: usize,
+    ended: bool,
+}
+
+// Turn after turn, up to the record's end, a line that can't be read, or the last that is shown.
 fn run_pieces(
     plan: &[u16; 1024],
     links: &mut [u32; 256],
@@ -134,20 +136,18 @@ fn run_pieces(
 ) -> u8 {
     let mut rows = [0u64; 2048];
     let mut octets = [0u8; 52416];
-    let mut message = [0u8; 1024];
-    let mut sent = [0u8; 4096];
-    let mut reports = [0u64; 1024];
-    let mut out = [0u8; 262144];
-    let mut counts = [0u64; 22];
-    let mut outputs = outputs::begin(begun, options);
-    let mut count = record.count;
-    let mut place = beginning();
+    let mut page = [0u8; 262144];
+    let mut counts = [0u64; 21];
+    let mut turn = Turn {
+        place: beginning(),
+        outputs: outputs::begin(begun, options),
+        filled: record.count,
+        ended: false,
+    };
     let mut turns = u64::MAX;
     while 0 < turns {
         turns -= 1;
-        let before = place;
-        let limit = limit_of(piece, count, place, options);
-        place = run_lines(
+        turn = run_turn(
             plan,
             links,
             marks,
@@ -156,56 +156,104 @@ fn run_pieces(
             &mut rows,
             &mut octets,
             arrivals,
-            between(piece, 0, limit),
-            place,
-            view_of(options),
-            &mut message,
-            &mut sent,
-            &mut reports,
-            &mut out,
-        );
-        outputs = outputs::take(
-            outputs,
             options,
-            between(piece, before.at, place.at),
-            before.number,
-            between(&out, 0, place.pending),
-            place.readable,
+            turn,
+            record.fd,
+            piece,
+            &mut page,
             &mut counts,
         );
-        place.pending = 0;
-        if ends(options, outputs.status, place.number) {
+        if turn.ended {
             break;
         }
-        if before.at < place.at {
-            continue;
-        }
-        let rest = move_to_front(piece, place.at, count);
-        let next = more(record.fd, piece, rest);
-        outputs = outputs::go_on(outputs, next.count);
-        if next.count == 0 {
-            outputs = read_out(
-                outputs,
-                options,
-                between(piece, 0, rest),
-                next.failed,
-                place.number,
-                &mut counts,
-            );
-            break;
-        }
-        count = wrapping_add_usize(rest, next.count);
-        place.at = 0;
     }
-    outputs::end(outputs, options, &counts)
+    outputs::end(turn.outputs, options, &counts)
 }
 
-fn beginning() -> Place {
-    Place {
-        at: 0,
-        number: 1,
-        pending: 0,
-        readable: true,
+// The lines that end in the piece, as far as a page holds what they write; with none left, the next piece.
+fn run_turn(
+    plan: &[u16; 1024],
+    links: &mut [u32; 256],
+    marks: &mut [u32; 512],
+    spans: &mut [u16; 70],
+    rings: &mut [u8; 8960],
+    rows: &mut [u64; 2048],
+    octets: &mut [u8; 52416],
+    arrivals: &mut [u64; 1],
+    options: Options,
+    turn: Turn,
+    fd: i32,
+    piece: &mut [u8; 65536],
+    page: &mut [u8; 262144],
+    counts: &mut [u64; 21],
+) -> Turn {
+    let before = turn.place;
+    let limit = limit_of(piece, turn.filled, before, options);
+    let place = run_text(
+        plan,
+        links,
+        marks,
+        spans,
+        rings,
+        rows,
+        octets,
+        arrivals,
+        between(piece, 0, limit),
+        before,
+        view_of(options),
+        page,
+    );
+    let outputs = outputs::take(
+        turn.outputs,
+        options,
+        between(piece, before.at, place.at),
+        before.number,
+        between(page, 0, place.pending),
+        place.readable,
+        counts,
+    );
+    let next = taken(turn, options, place, outputs);
+    if next.ended || before.at < place.at {
+        return next;
+    }
+    read_on(next, options, fd, piece, counts)
+}
+
+// Lines were run, and their answers taken.
+fn taken(turn: Turn, options: Options, after: Place, outputs: Outputs) -> Turn {
+    let mut place = after;
+    place.pending = 0;
+    let ended = ends(options, outputs.status, place.number);
+    Turn {
+        place,
+        outputs,
+        filled: turn.filled,
+        ended,
+    }
+}
+
+// What the piece cuts goes to the front of the next; with no next one the run has ended.
+fn read_on(
+    turn: Turn,
+    options: Options,
+    fd: i32,
+    piece: &mut [u8; 65536],
+    counts: &mut [u64; 21],
+) -> Turn {
+    let mut place = turn.place;
+    let next = next_piece(fd, piece, place.at, turn.filled);
+    place.at = 0;
+    let mut outputs = outputs::go_on(turn.outputs, next.count);
+    let ended = next.count == 0;
+    if ended {
+        let rest = between(piece, 0, next.rest);
+        outputs = read_out(outputs, options, rest, next.failed, place.number, counts);
+    }
+    Turn {
+        place,
+        outputs,
+        filled: wrapping_add_usize(next.rest, next.count),
+        ended,
     }
 }
 
@@ -246,7 +294,7 @@ fn read_out(
     rest: &[u8],
     failed: bool,
     number: u64,
-    counts: &mut [u64; 22],
+    counts: &mut [u64; 21],
 ) -> Outputs {
     if failed {
         return outputs::fail(outputs, b"the record");

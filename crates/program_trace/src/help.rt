@@ -17,6 +17,7 @@ Options stand anywhere among the files; behind -- all words are files.
   --destination CODE  show only those for that destination
   --circuit CIRCUIT   show only those about that circuit
   --lost              show only those that were dropped, or are held at the end, sent and not acknowledged
+  --twice             show only those that may arrive twice
   --changeovers       show no messages, but a sentence for each link that went out
   --picture FILE      write the changeovers into that file as well, as a drawing (SVG) that a browser opens
   --help              show this, and run nothing

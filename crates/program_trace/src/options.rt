@@ -5,19 +5,16 @@ use text_decimals::decimal::decimal;
 use tool_files::arguments;
 use tool_files::arguments::Arguments;
 use tool_files::arguments::NO_LINE;
-use tool_files::arguments::UNKNOWN;
-use tool_files::arguments::VALUE_MISSING;
-use tool_files::arguments::dashed;
-use tool_files::arguments::past;
+use tool_files::arguments::Word;
+use tool_files::arguments::complete;
+use tool_files::arguments::ends;
+use tool_files::arguments::next_word;
 use tool_files::arguments::unread;
-use tool_files::arguments::with_file;
-use tool_words::lines::number_of;
 use trace_books::asked::ANY;
 use trace_books::asked::Asked;
 
 pub struct Options {
     pub asked: Asked,
-    pub help: bool,
     // The place of the picture's file among the arguments, 0 where it isn't asked for.
     pub picture: usize,
     pub arguments: Arguments,
@@ -32,20 +29,16 @@ const NO_CIRCUIT: u64 = 9;
 
 // Word after word, up to the first that is wrong or asks for help.
 pub fn read() -> Options {
-    let count = os::arg_count();
     let mut options = nothing();
-    let mut turns = count;
+    let mut turns = os::arg_count();
     while 0 < turns {
         turns -= 1;
-        if count <= options.arguments.next || ends(options) {
+        if ends(options.arguments) {
             break;
         }
         options = with_word(options);
     }
-    if ends(options) {
-        return options;
-    }
-    with(options, arguments::complete(options.arguments))
+    with(options, complete(options.arguments))
 }
 
 fn nothing() -> Options {
@@ -57,16 +50,12 @@ fn nothing() -> Options {
             destination: ANY,
             circuit: ANY,
             lost: false,
+            twice: false,
             changeovers: false,
         },
-        help: false,
         picture: 0,
         arguments: unread(),
     }
-}
-
-fn ends(options: Options) -> bool {
-    options.help || 0 < options.arguments.fault
 }
 
 fn with(options: Options, arguments: Arguments) -> Options {
@@ -81,78 +70,61 @@ fn wrong(options: Options, fault: u64, word: usize) -> Options {
 
 // The next word: a file, an option, or an option and its value.
 fn with_word(options: Options) -> Options {
-    let mut area = io::buffer();
-    let at = options.arguments.next;
-    let length = os::arg(at, &mut area);
-    let word = between(&area, 0, length);
-    if options.arguments.ended || !dashed(word) {
-        return with(options, with_file(options.arguments));
-    }
-    let option = number_of(
-        b"--lost\n--changeovers\n--help\n--\n--picture\n--from\n--to\n--link\n--destination\n--circuit\n",
-        word,
+    let word = next_word(
+        options.arguments,
+        b"--lost\n--twice\n--changeovers\n--picture\n--from\n--to\n--link\n--destination\n--circuit\n",
+        3,
     );
-    if option == 0 {
-        return wrong(options, UNKNOWN, at);
+    let next = with(options, word.arguments);
+    if word.value == 0 {
+        return with_flag(next, word.option);
     }
-    if 4 < option {
-        return with_value(options, option);
-    }
-    with_flag(options, option)
+    with_value(next, word)
 }
 
 fn with_flag(options: Options, option: u64) -> Options {
     let mut next = options;
     let mut asked = options.asked;
-    let mut arguments = past(options.arguments, 1);
     match option {
         1 => asked.lost = true,
-        2 => asked.changeovers = true,
-        3 => next.help = true,
-        _ => arguments.ended = true,
+        2 => asked.twice = true,
+        3 => asked.changeovers = true,
+        _ => {}
     }
     next.asked = asked;
-    with(next, arguments)
+    next
 }
 
-// The next word is an option with the value behind it.
-fn with_value(options: Options, option: u64) -> Options {
-    let mut area = io::buffer();
-    let at = options.arguments.next;
-    let behind = past(options.arguments, 1);
-    let place = behind.next;
-    let length = os::arg(place, &mut area);
-    let value = between(&area, 0, length);
-    if length == 0 || dashed(value) {
-        return wrong(options, VALUE_MISSING, at);
-    }
-    let mut next = with(options, past(behind, 1));
-    if option == 5 {
-        next.picture = place;
+fn with_value(options: Options, word: Word) -> Options {
+    let mut next = options;
+    if word.option == 4 {
+        next.picture = word.value;
         return next;
     }
-    let Number::Value(number) = decimal(value, top_of(option)) else {
-        return wrong(options, fault_of(option), place);
+    let mut area = io::buffer();
+    let length = os::arg(word.value, &mut area);
+    let Number::Value(number) = decimal(between(&area, 0, length), top_of(word.option)) else {
+        return wrong(options, fault_of(word.option), word.value);
     };
-    next.asked = with_number(options.asked, option, number);
+    next.asked = with_number(options.asked, word.option, number);
     next
 }
 
 // The highest number that an option takes.
 fn top_of(option: u64) -> u64 {
     match option {
-        8 => 31,
-        9 => 16383,
-        10 => 4095,
+        7 => 31,
+        8 => 16383,
+        9 => 4095,
         _ => u64::MAX,
     }
 }
 
 fn fault_of(option: u64) -> u64 {
     match option {
-        8 => NO_LINK,
-        9 => NO_CODE,
-        10 => NO_CIRCUIT,
+        7 => NO_LINK,
+        8 => NO_CODE,
+        9 => NO_CIRCUIT,
         _ => NO_LINE,
     }
 }
@@ -160,10 +132,10 @@ fn fault_of(option: u64) -> u64 {
 fn with_number(asked: Asked, option: u64, number: u64) -> Asked {
     let mut next = asked;
     match option {
-        6 => next.first = number,
-        7 => next.last = number,
-        8 => next.link = number,
-        9 => next.destination = number,
+        5 => next.first = number,
+        6 => next.last = number,
+        7 => next.link = number,
+        8 => next.destination = number,
         _ => next.circuit = number,
     }
     next

@@ -7,15 +7,13 @@ use replay_refusals::put_fault;
 use replay_refusals::put_unreadable;
 use replay_shift::run::Place;
 use replay_shift::run::View;
-use replay_shift::run::run_lines;
 use start::start;
 use std::num::wrapping_add_usize;
 use text::part::between;
 use text::part::line;
 use tool_files::complaint::complain_of;
 use tool_files::file::File;
-use tool_files::file::more;
-use tool_files::file::move_to_front;
+use tool_files::file::next_piece;
 use tool_files::file::size;
 use tool_files::progress;
 use tool_files::progress::Progress;
@@ -27,6 +25,8 @@ use tool_files::writer::Writer;
 use tool_files::writer::add;
 use tool_files::writer::flush;
 use tool_files::writer::onto;
+use tool_shift::beginning;
+use tool_shift::run_text;
 use trace_books::asked::Asked;
 use trace_books::take::Books;
 use trace_books::take::end;
@@ -40,6 +40,7 @@ pub fn run(
     record: File,
     piece: &mut [u8; 65536],
 ) -> u8 {
+    let configuration = between(text, 0, length);
     let mut plan = [0u16; 1024];
     let mut links = [0u32; 256];
     let mut marks = [0u32; 512];
@@ -53,25 +54,14 @@ pub fn run(
         &mut spans,
         &mut rings,
         &mut arrivals,
-        between(text, 0, length),
+        configuration,
     );
     if 0 < made.fault {
         return refuse(made.line, made.fault);
     }
-    let size_of_record = size(record.fd);
-    let mut fd = -1;
-    if 0 < options.picture {
-        fd = target::open(
-            b"trace",
-            options.picture,
-            false,
-            between(text, 0, length),
-            between(piece, 0, record.count),
-            size_of_record,
-        );
-        if fd < 0 {
-            return FAILED;
-        }
+    let fd = opened(options.picture, configuration, piece, record);
+    if 0 < options.picture && fd < 0 {
+        return FAILED;
     }
     run_pieces(
         &plan,
@@ -82,9 +72,23 @@ pub fn run(
         &mut arrivals,
         options.asked,
         fd,
-        progress::begin(size_of_record),
         record,
         piece,
+    )
+}
+
+// The file of the picture, where one is asked for.
+fn opened(picture: usize, configuration: &[u8], piece: &[u8; 65536], record: File) -> i32 {
+    if picture == 0 {
+        return -1;
+    }
+    target::open(
+        b"trace",
+        picture,
+        false,
+        configuration,
+        between(piece, 0, record.count),
+        size(record.fd),
     )
 }
 
@@ -99,7 +103,17 @@ fn refuse(line: usize, fault: u8) -> u8 {
     FAILED
 }
 
-// Turn after turn: the next line that ends in a piece of the record. With none left, what a piece cuts goes to the front of the next.
+// Where a run stands: the next line, what is written, how far it is, how much of the piece is filled; its status, and whether nothing more is run.
+struct Turn {
+    place: Place,
+    outputs: Outputs,
+    progress: Progress,
+    filled: usize,
+    status: u8,
+    ended: bool,
+}
+
+// Turn after turn, up to the record's end or a line that can't be read.
 fn run_pieces(
     plan: &[u16; 1024],
     links: &mut [u32; 256],
@@ -109,37 +123,23 @@ fn run_pieces(
     arrivals: &mut [u64; 1],
     asked: Asked,
     fd: i32,
-    begun: Progress,
     record: File,
     piece: &mut [u8; 65536],
 ) -> u8 {
     let mut rows = [0u64; 2048];
     let mut octets = [0u8; 52416];
     let mut page = [0u8; 262144];
-    let mut states = [0u8; 32];
+    let mut known = [0u32; 256];
     let mut failures = [0u64; 32];
     let mut order = [0u8; 256];
     let mut held = [0u64; 8192];
     let mut area = [0u8; 65536];
     let mut drawing = [0u8; 65536];
-    begin(&mut order);
-    let mut outputs = Outputs {
-        books: Books {
-            count: 0,
-            lines: onto(STDOUT_FILENO),
-        },
-        picture: trace_picture::file::begin(fd, &mut drawing),
-    };
-    let mut progress = begun;
-    let mut length = record.count;
-    let mut place = beginning();
-    let mut status = DONE;
+    let mut turn = first_turn(fd, record, &mut order, &mut drawing);
     let mut turns = u64::MAX;
     while 0 < turns {
         turns -= 1;
-        let before = place;
-        let end_of_line = next_line(piece, length, before.at);
-        place = run_line(
+        turn = run_turn(
             plan,
             links,
             marks,
@@ -148,88 +148,46 @@ fn run_pieces(
             &mut rows,
             &mut octets,
             arrivals,
-            between(piece, 0, end_of_line),
-            before,
+            asked,
+            turn,
+            record.fd,
+            piece,
             &mut page,
+            &mut known,
+            &mut failures,
+            &mut order,
+            &mut held,
+            &mut area,
+            &mut drawing,
         );
-        if before.at < place.at {
-            outputs = take_call(
-                plan,
-                links,
-                &rows,
-                between(piece, before.at, end_of_line),
-                before.number,
-                &page,
-                place.pending,
-                asked,
-                outputs,
-                &mut states,
-                &mut failures,
-                &mut order,
-                &mut held,
-                &mut area,
-                &mut drawing,
-            );
-            status = status_of(place.readable, outputs);
-            place.pending = 0;
-            if status == DONE {
-                continue;
-            }
+        if turn.ended {
             break;
         }
-        let rest = move_to_front(piece, place.at, length);
-        let next = more(record.fd, piece, rest);
-        progress = go_on(progress, next.count);
-        if next.count == 0 {
-            status = status_at_end(progress, next.failed, rest);
-            break;
-        }
-        length = wrapping_add_usize(rest, next.count);
-        place.at = 0;
     }
-    progress::clear(progress);
-    let lines = finish(
-        status,
-        place.number,
-        asked,
-        outputs.books,
-        &order,
-        &held,
-        &mut area,
-    );
-    ended(
-        lines,
-        trace_picture::file::end(outputs.picture, &mut drawing),
-    )
+    finish(turn, asked, &order, &held, &mut area, &mut drawing)
 }
 
-// A picture that couldn't be written has told so.
-fn ended(status: u8, drawn: bool) -> u8 {
-    if drawn { status } else { FAILED }
-}
-
-fn beginning() -> Place {
-    Place {
-        at: 0,
-        number: 1,
-        pending: 0,
-        readable: true,
+// Nothing is run yet: no message is held, and the picture has its head.
+fn first_turn(fd: i32, record: File, order: &mut [u8; 256], drawing: &mut [u8; 65536]) -> Turn {
+    begin(order);
+    Turn {
+        place: beginning(),
+        outputs: Outputs {
+            books: Books {
+                count: 0,
+                lines: onto(STDOUT_FILENO),
+            },
+            picture: trace_picture::file::begin(fd, drawing),
+        },
+        progress: progress::begin(size(record.fd)),
+        filled: record.count,
+        status: DONE,
+        ended: false,
     }
 }
 
-// Octets more of the record were read.
-fn go_on(progress: Progress, octets: usize) -> Progress {
-    progress::on(progress, b"trace", octets)
-}
-
-// Where the line that begins at a place of a piece ends, its LF among it; the piece's end where it cuts the line.
-fn next_line(piece: &[u8; 65536], length: usize, at: usize) -> usize {
-    let part = line(between(piece, 0, length), at);
-    part.next
-}
-
-// The line that ends a text, from a place on: what it answers stands on the page.
-fn run_line(
+// The next line that ends in the piece, and its answer brought into the books; with none left, the next piece.
+fn run_turn(
     plan: &[u16; 1024],
     links: &mut [u32; 256],
     marks: &mut [u32; 512],
@@ -238,20 +196,21 @@ fn run_line(
     rows: &mut [u64; 2048],
     octets: &mut [u8; 52416],
     arrivals: &mut [u64; 1],
-    text: &[u8],
-    from: Place,
+    asked: Asked,
+    turn: Turn,
+    fd: i32,
+    piece: &mut [u8; 65536],
     page: &mut [u8; 262144],
-) -> Place {
-    let mut message = [0u8; 1024];
-    let mut sent = [0u8; 4096];
-    let mut reports = [0u64; 1024];
-    let view = View {
-        first: 0,
-        last: u64::MAX,
-        only: false,
-        fates: true,
-    };
-    run_lines(
+    known: &mut [u32; 256],
+    failures: &mut [u64; 32],
+    order: &mut [u8; 256],
+    held: &mut [u64; 8192],
+    area: &mut [u8; 65536],
+    drawing: &mut [u8; 65536],
+) -> Turn {
+    let before = turn.place;
+    let end_of_line = next_line(piece, turn.filled, before.at);
+    let place = run_text(
         plan,
         links,
         marks,
@@ -260,14 +219,85 @@ fn run_line(
         rows,
         octets,
         arrivals,
-        text,
-        from,
-        view,
-        &mut message,
-        &mut sent,
-        &mut reports,
+        between(piece, 0, end_of_line),
+        before,
+        all(),
         page,
-    )
+    );
+    if place.at <= before.at {
+        return read_on(turn, fd, piece);
+    }
+    let outputs = take_call(
+        plan,
+        links,
+        rows,
+        between(piece, before.at, end_of_line),
+        before.number,
+        between(page, 0, place.pending),
+        asked,
+        turn.outputs,
+        known,
+        failures,
+        order,
+        held,
+        area,
+        drawing,
+    );
+    taken(turn, place, outputs)
+}
+
+// A trace looks at every answer, with its fates.
+fn all() -> View {
+    View {
+        first: 0,
+        last: u64::MAX,
+        only: false,
+        fates: true,
+    }
+}
+
+// A line was run, and its answer taken.
+fn taken(turn: Turn, after: Place, outputs: Outputs) -> Turn {
+    let mut place = after;
+    place.pending = 0;
+    let progress = turn.progress;
+    let status = status_of(place.readable, outputs);
+    Turn {
+        place,
+        outputs,
+        progress,
+        filled: turn.filled,
+        status,
+        ended: status != DONE,
+    }
+}
+
+// What the piece cuts goes to the front of the next; with no next one the run has ended.
+fn read_on(turn: Turn, fd: i32, piece: &mut [u8; 65536]) -> Turn {
+    let mut place = turn.place;
+    let next = next_piece(fd, piece, place.at, turn.filled);
+    place.at = 0;
+    let outputs = turn.outputs;
+    let progress = progress::on(turn.progress, b"trace", next.count);
+    let ended = next.count == 0;
+    let mut status = DONE;
+    if ended {
+        status = status_at_end(progress, next.failed, next.rest);
+    }
+    Turn {
+        place,
+        outputs,
+        progress,
+        filled: wrapping_add_usize(next.rest, next.count),
+        status,
+        ended,
+    }
+}
+
+// Where the line that begins at a place of a piece ends, its LF among it; the piece's end where it cuts the line.
+fn next_line(piece: &[u8; 65536], length: usize, at: usize) -> usize {
+    let part = line(between(piece, 0, length), at);
+    part.next
 }
 
 fn status_of(readable: bool, outputs: Outputs) -> u8 {
@@ -293,8 +323,35 @@ fn status_at_end(progress: Progress, failed: bool, rest: usize) -> u8 {
     REFUSED
 }
 
-// The run has ended: the messages that are still held, and the line that couldn't be read. Answers the status.
+// The run has ended, and the picture with it: one that couldn't be written has told so. Answers the status.
 fn finish(
+    turn: Turn,
+    asked: Asked,
+    order: &[u8; 256],
+    held: &[u64; 8192],
+    area: &mut [u8; 65536],
+    drawing: &mut [u8; 65536],
+) -> u8 {
+    progress::clear(turn.progress);
+    let place = turn.place;
+    let outputs = turn.outputs;
+    let status = finish_lines(
+        turn.status,
+        place.number,
+        asked,
+        outputs.books,
+        order,
+        held,
+        area,
+    );
+    if trace_picture::file::end(outputs.picture, drawing) {
+        return status;
+    }
+    FAILED
+}
+
+// The messages that are still held, and the line that couldn't be read. Answers the status.
+fn finish_lines(
     status: u8,
     number: u64,
     asked: Asked,

@@ -20,7 +20,7 @@ use Rattle.fate_places.specs.Places.{Held, places}
 use Rattle.replay_fates.specs.Holds.{together}
 use Rattle.replay_fates.proofs.Saying.{fates-hold}
 use Rattle.replay_fates.proofs.NoneLeftOut.{new-told, acknowledged-told, retired-told, moved-told}
-use Rattle.promise_fates.specs.Told.{heldIn, seenOf, FatesTrue}
+use Rattle.promise_fates.specs.Told.{queuesIn, seenOf, FatesTrue}
 
 -- what queues hold together is no more than their counts
 within-counts : (h : Held) (queue queues : ℕ) → sum (countOf (h .spans)) queue + together h queue queues ≤ sum (countOf (h .spans)) (queue + queues)
@@ -33,10 +33,10 @@ within-counts h queue (suc queues) =
     let end = ap (sum (countOf (h .spans))) index in
     omega (arith, later, same, end)
 
-pub at-most : (m : Memory) → RegularAt m → together (heldIn m) 0 33 ≤ 256
+pub at-most : (m : Memory) → RegularAt m → together (queuesIn m) 0 33 ≤ 256
 unfolding sum
 at-most m regular =
-    omega (arith, within-counts (heldIn m) 0 33, sum-two (countOf (m .areas .spans)) 33, regular .store .all)
+    omega (arith, within-counts (queuesIn m) 0 33, sum-two (countOf (m .areas .spans)) 33, regular .store .all)
 
 -- every call
 pub fates-true : (text : List ℕ) (m : Memory) → Whole m → (calls : List Call) (call : Call)

@@ -30,7 +30,7 @@ use Rattle.fate_lines.specs.declared.Fate.the-variants.{Unchanged, Acknowledged
 use Rattle.fate_places.specs.Places.{messageAt, nowhere}
 use Rattle.replay_fates.specs.declared.deciding.Part.{Part}
 use Rattle.replay_fates.specs.declared.deciding.Part.the-variants.{Acknowledging, Retiring}
-use Rattle.replay_fates.specs.Fates.{fateAt, leaving}
+use Rattle.replay_fates.specs.Fates.{fateAt, leavingPart}
 use Rattle.replay_fates.specs.Holds.{Seen}
 use Rattle.replay_answers.specs.Answers.{acknowledgesOf}
 use Rattle.promise_runs.specs.Run.{Call, lent, ran, fresh, Whole}
@@ -195,7 +195,7 @@ module _ (m : Memory) (whole : Whole m) (one : length (m .areas .arrivals) ≡ 1
         gone-lines a b (r .answer .reports) gone all line link (some .1 .0) (some .0) (some .1 .1))
         first
 
-  leaving-is : (kind : Bool) → acknowledgesOf view ≡ kind → leaving (s .told) ≡ cond kind Acknowledging Retiring
+  leaving-is : (kind : Bool) → acknowledgesOf view ≡ kind → leavingPart (s .told) ≡ cond kind Acknowledging Retiring
   leaving-is kind e = ap (λ (t : Bool). cond t Acknowledging Retiring) e
 
   pub acknowledged-are : AcknowledgedAre plan call before

@@ -11,7 +11,7 @@ use Rattle.fate_lines.specs.declared.Fate.{Fate}
 use Rattle.fate_lines.specs.declared.Fate.the-variants.{Unchanged, Queued, Sent, Acknowledged, Retired, Moved}
 use Rattle.replay_fates.specs.declared.deciding.Part.{Part}
 use Rattle.replay_fates.specs.declared.deciding.Part.the-variants.{Arriving, Acknowledging, Retiring, Moving}
-use Rattle.replay_fates.specs.Fates.{fateAt, fatesAt, fatesFrom, fatesIn, sentFate, leaving, fatesOf}
+use Rattle.replay_fates.specs.Fates.{fateAt, fatesAt, fatesFrom, fatesIn, sentFate, leavingPart, fatesOf}
 use Rattle.replay_fates.specs.Holds.{Seen}
 use Rattle.promise_fates.specs.Lines.{picked}
 use Rattle.promise_fates.proofs.Walked.{picked-on}
@@ -60,12 +60,12 @@ module _ {B : Type 0} (read : Fate → List B) where
     -- all four
     pub four : picked read all
         ≡ picked read (part (Arriving (s .told .next)) (s .after))
-        ++ (read sent ++ (picked read (part (leaving (s .told)) (s .before)) ++ picked read (part Moving (s .before))))
+        ++ (read sent ++ (picked read (part (leavingPart (s .told)) (s .before)) ++ picked read (part Moving (s .before))))
     unfolding fatesOf picked
     four =
-        picked-on read (part (Arriving (s .told .next)) (s .after)) (sent ∷ (part (leaving (s .told)) (s .before) ++ part Moving (s .before)))
+        picked-on read (part (Arriving (s .told .next)) (s .after)) (sent ∷ (part (leavingPart (s .told)) (s .before) ++ part Moving (s .before)))
         ∙ ap (λ (l : List B). picked read (part (Arriving (s .told .next)) (s .after)) ++ (read sent ++ l))
-        (picked-on read (part (leaving (s .told)) (s .before)) (part Moving (s .before)))
+        (picked-on read (part (leavingPart (s .told)) (s .before)) (part Moving (s .before)))
 
     -- a kind of lines that a part doesn't have
     abbrev pub to : Held → ℕ → ℕ → ℕ
@@ -125,19 +125,19 @@ module _ {B : Type 0} (read : Fate → List B) where
         ∙ ap₂ (λ (x y : List B). cond test x y) (none (known .arrival) queue) nothing
         ∙ neither test)
 
-    leaving-is : (b : Bool) → s .told .acknowledges ≡ b → leaving (s .told) ≡ cond b Acknowledging Retiring
+    leaving-is : (b : Bool) → s .told .acknowledges ≡ b → leavingPart (s .told) ≡ cond b Acknowledging Retiring
     leaving-is b e = ap (λ (t : Bool). cond t Acknowledging Retiring) e
 
     -- neither acknowledged nor retired
     pub no-left : read Unchanged ≡ [] → ((arrival link : ℕ) → read (Acknowledged arrival link) ≡ [])
-        → ((arrival link : ℕ) → read (Retired arrival link) ≡ []) → picked read (part (leaving (s .told)) (s .before)) ≡ []
+        → ((arrival link : ℕ) → read (Retired arrival link) ≡ []) → picked read (part (leavingPart (s .told)) (s .before)) ≡ []
     no-left nothing neither-one nor-other =
         cases (s .told .acknowledges)
         (λ e. ap (λ (p : Part). picked read (part p (s .before))) (leaving-is true e) ∙ no-acknowledged nothing neither-one)
         (λ e. ap (λ (p : Part). picked read (part p (s .before))) (leaving-is false e) ∙ no-retired nothing nor-other)
 
     -- lines that only those that leave have
-    pub only-left : (which : Part) → leaving (s .told) ≡ which → read Unchanged ≡ []
+    pub only-left : (which : Part) → leavingPart (s .told) ≡ which → read Unchanged ≡ []
         → ((arrival link heading : ℕ) → read (Queued arrival link heading) ≡ [])
         → ((arrival link fsn : ℕ) → read (Sent arrival link fsn) ≡ [])
         → ((arrival from to : ℕ) → read (Moved arrival from to) ≡ [])

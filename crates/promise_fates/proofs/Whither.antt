@@ -15,7 +15,7 @@ use Rattle.queue_store.specs.Sound.{bit, tally, is}
 use Rattle.queue_store.proofs.Sums.{sum-part, sum-parts, sum-none}
 use Rattle.replies.specs.Areas.{Areas}
 use Rattle.queue_heads.specs.Head.{both}
-use Rattle.fate_places.specs.Places.{Held, held, seek, stands, nowhere, queueOf, tellsDrop, dropped, stays, whither}
+use Rattle.fate_places.specs.Places.{Held, held, seek, stands, nowhere, queueWith, tellsDrop, dropped, stays, whither}
 use Rattle.fate_places.proofs.WhereTold as WhereTold
 use Rattle.promise_ledger.specs.Held.{heldOf}
 use Rattle.promise_ledger.specs.Reported.{Report, report, reportsIn, isDrop, dropsOf}
@@ -130,8 +130,8 @@ module _ (b : Areas) (count : ℕ) (short : (ring : ℕ) → countOf (b .spans) 
   unfolding heldOf
   part queue below = sum-part there 33 queue below
 
-  nowhere-else : all ≡ 0 → queueOf h number ≡ nowhere
-  unfolding queueOf
+  nowhere-else : all ≡ 0 → queueWith h number ≡ nowhere
+  unfolding queueWith
   nowhere-else none =
       seek-none (λ (queue : ℕ). stands h queue number) (λ (queue : ℕ). queue) nowhere 0 33
       (λ queue low below. absent queue (omega (arith, none, part queue (omega arith))))
@@ -142,7 +142,7 @@ module _ (b : Areas) (count : ℕ) (short : (ring : ℕ) → countOf (b .spans) 
     unfolding whither
     gone-if none kept =
         let here : stands h ring number ≡ false = absent ring (omega (arith, none, part ring own)) in
-        let other : ltb (queueOf h number) nowhere ≡ false = le-ltb (queueOf h number) nowhere (omega (arith, nowhere-else none)) in
+        let other : ltb (queueWith h number) nowhere ≡ false = le-ltb (queueWith h number) nowhere (omega (arith, nowhere-else none)) in
         let untold : dropped (b .reports) count number ≡ false = dropped-is ∙ no-more drops kept in
         simp (here, other, untold)
 
@@ -164,7 +164,7 @@ module _ (b : Areas) (count : ℕ) (short : (ring : ℕ) → countOf (b .spans) 
     unfolding whither
     unheld-if none =
         let here : stands h ring number ≡ false = absent ring (omega (arith, none, part ring own)) in
-        let other : ltb (queueOf h number) nowhere ≡ false = le-ltb (queueOf h number) nowhere (omega (arith, nowhere-else none)) in
+        let other : ltb (queueWith h number) nowhere ≡ false = le-ltb (queueWith h number) nowhere (omega (arith, nowhere-else none)) in
         cases (dropped (b .reports) count number) (λ e. simp (here, other, e) (omega arith)) (λ e. simp (here, other, e) (omega arith))
 
   -- still where it was
@@ -176,16 +176,16 @@ module _ (b : Areas) (count : ℕ) (short : (ring : ℕ) → countOf (b .spans) 
 
   -- in another queue
   pub at-if : (queue : ℕ) → queue < 33 → ring < 33 → (ring ≡ queue → ⊥) → 1 ≤ there queue → all ≤ 1 → to ≡ queue
-  unfolding whither queueOf heldOf
+  unfolding whither queueWith heldOf
   at-if queue below own apart is once =
       let elsewhere : (k : ℕ) → k < 33 → (k ≡ queue → ⊥) → there k ≡ 0 =
       λ k low other. omega (arith, sum-parts there 33 k queue low below other, once, is)
       in
       let here : stands h ring number ≡ false = absent ring (elsewhere ring own apart) in
-      let found : queueOf h number ≡ queue =
+      let found : queueWith h number ≡ queue =
       seek-one (λ (k : ℕ). stands h k number) (λ (k : ℕ). k) nowhere queue 0 33 (omega arith) below
       (standing h queue number (short queue) ∙ some (there queue) is)
       (λ k low lower other. absent k (elsewhere k (omega arith) other))
       in
-      let inside : ltb (queueOf h number) nowhere ≡ true = lt-ltb (queueOf h number) nowhere (omega (arith, found, below)) in
+      let inside : ltb (queueWith h number) nowhere ≡ true = lt-ltb (queueWith h number) nowhere (omega (arith, found, below)) in
       simp (here, inside) found

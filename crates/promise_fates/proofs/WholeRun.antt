@@ -9,7 +9,7 @@ use Rattle.node.specs.View.{viewOf}
 use Rattle.node.specs.Memory.{Memory}
 use Rattle.fate_lines.specs.declared.Fate.{Fate}
 use Rattle.fate_lines.specs.declared.Fate.the-variants.{Unchanged, Queued, Sent, Acknowledged, Retired, Moved}
-use Rattle.promise_runs.specs.Run.{Call, lent, called, ran, fresh, Whole}
+use Rattle.promise_runs.specs.Run.{Call, called, ran, fresh, Whole}
 use Rattle.promise_accounts.specs.Gone.{acknowledgedBy, retiredBy, Gone, nothingGone, goneBy, goneIn}
 use Rattle.promise_changeover.specs.ChangedOver.{found, endingBy}
 use Rattle.promise_changeover.proofs.ChangedOver.{ran-on}

@@ -31,12 +31,12 @@ use Rattle.promise_queueing.specs.Joining.{cameBy, joinsAt}
 use Rattle.promise_farend.specs.History.{resultOf, isDone, sendingOf}
 use Rattle.promise_changeover.specs.ChangedOver.{found, endingBy, movedTo}
 use Rattle.promise_apart.specs.LetGo.{goes}
-use Rattle.promise_fates.specs.Told.{seenOf, fatesIn}
+use Rattle.promise_fates.specs.Told.{seenOf, fatesSeen}
 use Rattle.promise_fates.specs.Lines.{picked, queuedLine, sentLine, acknowledgedLine, retiredLine, movedLine}
 
 -- all that is told of a call made on a memory, line by line (R225)
 abbrev pub fatesBy : Plan → Call → Memory → List Fate
-fatesBy plan call m = fatesIn (seenOf plan call m)
+fatesBy plan call m = fatesSeen (seenOf plan call m)
 
 -- the link whose messages an event acknowledges: "Acknowledgement (open)" (R107)
 abbrev pub acknowledgedOver : View → ℕ

@@ -17,8 +17,8 @@ use Rattle.replay_fates.specs.Holds.{Seen, AllHold, Among}
 use Rattle.replay_answers.specs.Answers.{toldOf}
 
 -- the queues of a node
-abbrev pub heldIn : Memory → Held
-heldIn m = held (m .areas .spans) (m .areas .rings) (m .areas .rows)
+abbrev pub queuesIn : Memory → Held
+queuesIn m = held (m .areas .spans) (m .areas .rings) (m .areas .rows)
 
 -- all that is seen of a call made on a memory
 abbrev pub seenOf : Plan → Call → Memory → Seen
@@ -27,33 +27,33 @@ seenOf plan call m =
     record {
       told = toldOf (viewOf (call .event)) (made .answer) (nextOf (m .areas .arrivals));
       links = made .after .areas .links;
-      before = heldIn m;
-      after = heldIn (made .after);
+      before = queuesIn m;
+      after = queuesIn (made .after);
       reports = made .after .areas .reports;
     }
 
-abbrev pub fatesIn : Seen → List Fate
-fatesIn s = fatesOf (s .told) (s .links) (s .before) (s .after) (s .reports)
+abbrev pub fatesSeen : Seen → List Fate
+fatesSeen s = fatesOf (s .told) (s .links) (s .before) (s .after) (s .reports)
 
 -- where the message is after the call that stood at a place of a queue before it
-abbrev pub goes : Seen → ℕ → ℕ → ℕ
-goes s queue place = whither (s .after) (s .reports) (s .told .reports) queue (messageAt (s .before) queue place .arrival)
+abbrev pub goneTo : Seen → ℕ → ℕ → ℕ
+goneTo s queue place = whither (s .after) (s .reports) (s .told .reports) queue (messageAt (s .before) queue place .arrival)
 
 pub record FatesTrue (s : Seen) : Type 0 where
   -- every line says what is so
-  pub so : AllHold s (fatesIn s)
+  pub so : AllHold s (fatesSeen s)
   -- every message with a new number is told, with the link that it stands on
   pub queued : (queue place : ℕ) → queue < 33 → place < places (s .after) queue →
       let known = messageAt (s .after) queue place in
-      s .told .next ≤ known .arrival → Among (Queued (known .arrival) queue (known .heading)) (fatesIn s)
+      s .told .next ≤ known .arrival → Among (Queued (known .arrival) queue (known .heading)) (fatesSeen s)
   -- every message that an acknowledgement takes out of the queues is told as acknowledged, every one that any other call takes out and that isn't reported
   -- dropped as retired
   pub acknowledged : (queue place : ℕ) → queue < 33 → place < places (s .before) queue
-      → s .told .acknowledges ≡ true → goes s queue place ≡ nowhere
-      → Among (Acknowledged (messageAt (s .before) queue place .arrival) queue) (fatesIn s)
+      → s .told .acknowledges ≡ true → goneTo s queue place ≡ nowhere
+      → Among (Acknowledged (messageAt (s .before) queue place .arrival) queue) (fatesSeen s)
   pub retired : (queue place : ℕ) → queue < 33 → place < places (s .before) queue
-      → s .told .acknowledges ≡ false → goes s queue place ≡ nowhere
-      → Among (Retired (messageAt (s .before) queue place .arrival) queue) (fatesIn s)
+      → s .told .acknowledges ≡ false → goneTo s queue place ≡ nowhere
+      → Among (Retired (messageAt (s .before) queue place .arrival) queue) (fatesSeen s)
   -- every message that has another queue is told as moved, from the one and to the other
-  pub moved : (queue place : ℕ) → queue < 33 → place < places (s .before) queue → goes s queue place < nowhere
-      → Among (Moved (messageAt (s .before) queue place .arrival) queue (goes s queue place)) (fatesIn s)
+  pub moved : (queue place : ℕ) → queue < 33 → place < places (s .before) queue → goneTo s queue place < nowhere
+      → Among (Moved (messageAt (s .before) queue place .arrival) queue (goneTo s queue place)) (fatesSeen s)

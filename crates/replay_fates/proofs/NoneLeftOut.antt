@@ -1,11 +1,11 @@
 -- No message is left out: where the queues hold at most 256 together, each that is new, is gone or has moved is told, with the queue that it stands in or left.
 -- Assumes nothing.
-use mathlib.Core.Path.{_≡_, refl, sym, ap, subst, _∙_}
+use mathlib.Core.Path.{_≡_, sym, ap, subst}
 use mathlib.Core.Bool.{Bool, true, false, cond}
 use mathlib.Core.List.{List, [], _∷_, _++_}
 use Prim.Native.Nat.{ℕ, zero, suc, _+_, _-_, _≤_, _<_, min}
 use native.Mathlib.Omega.{arith}
-use lib.Dec.{eqb, ltb}
+use lib.Dec.{ltb}
 use borrow.Author.Tests.{eq-eqb, lt-ltb, le-ltb, ltb-true, ltb-false}
 use borrow.Table.Steps.{cases}
 use Rattle.fate_places.specs.Places.{Held, places, messageAt, nowhere, whither}
@@ -13,7 +13,7 @@ use Rattle.fate_lines.specs.declared.Fate.{Fate}
 use Rattle.fate_lines.specs.declared.Fate.the-variants.{Queued, Acknowledged, Retired, Moved}
 use Rattle.replay_fates.specs.declared.deciding.Part.{Part}
 use Rattle.replay_fates.specs.declared.deciding.Part.the-variants.{Arriving, Acknowledging, Retiring, Moving}
-use Rattle.replay_fates.specs.Fates.{fateAt, fatesAt, fatesFrom, fatesIn, sentFate, leaving, fatesOf}
+use Rattle.replay_fates.specs.Fates.{fateAt, fatesAt, fatesFrom, fatesIn, sentFate, leavingPart, fatesOf}
 use Rattle.replay_fates.specs.Holds.{Seen, Among, together}
 use Rattle.replay_fates.specs.Holds.Among.{here, there}
 
@@ -71,7 +71,7 @@ module _ (s : Seen) (queue place : ℕ) (below : queue < 33) where
   new = fatesIn (Arriving (s .told .next)) (s .after) (s .after) (s .reports) (s .told .reports)
 
   abbrev left : List Fate
-  left = fatesIn (leaving (s .told)) (s .before) (s .after) (s .reports) (s .told .reports)
+  left = fatesIn (leavingPart (s .told)) (s .before) (s .after) (s .reports) (s .told .reports)
 
   abbrev moves : List Fate
   moves = fatesIn Moving (s .before) (s .after) (s .reports) (s .told .reports)
@@ -100,10 +100,10 @@ module _ (s : Seen) (queue place : ℕ) (below : queue < 33) where
     unfolding fatesOf
     left-told fate is = among-last fate new _ (there fate (sentFate (s .told) (s .links) (s .after)) (left ++ moves) (among-first fate left moves is))
 
-    leaving-is : {b : Bool} → s .told .acknowledges ≡ b → leaving (s .told) ≡ cond b Acknowledging Retiring
+    leaving-is : {b : Bool} → s .told .acknowledges ≡ b → leavingPart (s .told) ≡ cond b Acknowledging Retiring
     leaving-is e = ap (λ (b : Bool). cond b Acknowledging Retiring) e
 
-    by-part : (part : Part) → leaving (s .told) ≡ part → (fate : Fate)
+    by-part : (part : Part) → leavingPart (s .told) ≡ part → (fate : Fate)
         → fateAt part (s .before) (s .after) (s .reports) (s .told .reports) queue place ≡ fate → Among fate all
     by-part part is fate e =
         left-told fate

@@ -1,21 +1,19 @@
 -- Every fate that is told of a call is so: what its line says holds in the queues before and after the call and in its reports, whatever they hold.
 -- Assumes nothing.
-use mathlib.Core.Path.{_≡_, refl, sym, ap, subst, _∙_}
+use mathlib.Core.Path.{_≡_, refl}
 use mathlib.Core.Bool.{Bool, true, false, cond}
 use mathlib.Core.List.{List, [], _∷_, _++_}
 use Prim.Native.Nat.{ℕ, zero, suc, _+_, _-_, _≤_, _<_, min}
 use native.Mathlib.Omega.{arith}
 use lib.Dec.{eqb, ltb}
 use borrow.Author.Tests.{eqb-true, ltb-true, ltb-false}
-use borrow.Table.Steps.{cases}
 use Rattle.fate_places.specs.Places.{Held, places, messageAt, nowhere, whither}
 use Rattle.fate_places.proofs.WhereTold as WhereTold
 use Rattle.fate_lines.specs.declared.Fate.{Fate}
 use Rattle.fate_lines.specs.declared.Fate.the-variants.{Unchanged, Queued, Sent, Acknowledged, Retired, Moved}
 use Rattle.replay_fates.specs.declared.deciding.Part.{Part}
 use Rattle.replay_fates.specs.declared.deciding.Part.the-variants.{Arriving, Acknowledging, Retiring, Moving}
-use Rattle.replay_fates.specs.declared.deciding.Told.{Told}
-use Rattle.replay_fates.specs.Fates.{fateAt, fatesAt, fatesFrom, fatesIn, sentFate, leaving, fatesOf}
+use Rattle.replay_fates.specs.Fates.{fateAt, fatesAt, fatesFrom, fatesIn, sentFate, leavingPart, fatesOf}
 use Rattle.replay_fates.specs.Holds.{Seen, Left, Holds, AllHold}
 use Rattle.replay_fates.specs.Holds.Holds.{unchanged, queued, sent, acknowledged, retired, moved}
 use Rattle.replay_fates.specs.Holds.AllHold.{none, more}
@@ -106,7 +104,7 @@ module _ (s : Seen) where
       (λ e. sent s (ltb-true (s .told .sender) 32 e))
       (λ e. unchanged s)
 
-  leaving-holds : AllHold s (fatesIn (leaving (s .told)) (s .before) (s .after) (s .reports) count)
+  leaving-holds : AllHold s (fatesIn (leavingPart (s .told)) (s .before) (s .after) (s .reports) count)
   leaving-holds =
       by-test (λ (part : Part). AllHold s (fatesIn part (s .before) (s .after) (s .reports) count)) (s .told .acknowledges) Acknowledging Retiring
       (λ e. all-in Acknowledging (s .before) (each-acknowledged e))
@@ -117,7 +115,7 @@ module _ (s : Seen) where
   unfolding fatesOf
   fates-hold =
       let new = fatesIn (Arriving (s .told .next)) (s .after) (s .after) (s .reports) count in
-      let left = fatesIn (leaving (s .told)) (s .before) (s .after) (s .reports) count in
+      let left = fatesIn (leavingPart (s .told)) (s .before) (s .after) (s .reports) count in
       let moves = fatesIn Moving (s .before) (s .after) (s .reports) count in
       both s new (sentFate (s .told) (s .links) (s .after) ∷ (left ++ moves)) (all-in (Arriving (s .told .next)) (s .after) each-new)
       (more s (sentFate (s .told) (s .links) (s .after)) (left ++ moves) sent-holds (both s left moves leaving-holds (all-in Moving (s .before) each-moved)))

@@ -55,11 +55,15 @@ module _ (number : ℕ) (part : Part) (walked after : Held) (reports : List ℕ)
         let none : m - queue ≡ 0 = omega arith in
         ap (λ (n : ℕ). fateLines number (fatesFrom part walked after reports count queue n left)) none
 
--- all that is told of a call, part by part
+-- all that is told of a call: what is new, what was sent, and what left
+pub three-parts : (number : ℕ) (new : List Fate) (sent : Fate) (left : List Fate)
+    → fateLines number new ++ (fateLine number sent ++ fateLines number left) ≡ fateLines number (new ++ (sent ∷ left))
+unfolding fateLines
+three-parts number new sent left = sym (lines-append number new (sent ∷ left))
+
 pub four-parts : (number : ℕ) (new : List Fate) (sent : Fate) (left moved : List Fate)
     → fateLines number new ++ (fateLine number sent ++ (fateLines number left ++ fateLines number moved))
     ≡ fateLines number (new ++ (sent ∷ (left ++ moved)))
-unfolding fateLines
 four-parts number new sent left moved =
     ap (λ (l : List (List ℕ)). fateLines number new ++ (fateLine number sent ++ l)) (sym (lines-append number left moved))
-    ∙ sym (lines-append number new (sent ∷ (left ++ moved)))
+    ∙ three-parts number new sent (left ++ moved)

@@ -54,12 +54,16 @@ sentFate told links after =
     Unchanged
 
 -- what an acknowledgement takes out of the queues is acknowledged, what any other call does is retired
-abbrev pub leaving : Told → Part
-leaving told = cond (told .acknowledges) Acknowledging Retiring
+abbrev pub leavingPart : Told → Part
+leavingPart told = cond (told .acknowledges) Acknowledging Retiring
+
+-- what left the queues that it stood in before the call: "acknowledged, retired and moved"
+abbrev pub leftOf : Told → Held → Held → List ℕ → List Fate
+leftOf told before after reports =
+    fatesIn (leavingPart told) before after reports (told .reports) ++ fatesIn Moving before after reports (told .reports)
 
 -- "first what was queued, then what was sent, acknowledged, retired and moved": by the links after the call, the queues before and after it, and its reports
 unfoldable pub fatesOf : Told → List ℕ → Held → Held → List ℕ → List Fate
 fatesOf told links before after reports =
     fatesIn (Arriving (told .next)) after after reports (told .reports)
-    ++ (sentFate told links after
-    ∷ (fatesIn (leaving told) before after reports (told .reports) ++ fatesIn Moving before after reports (told .reports)))
+    ++ (sentFate told links after ∷ leftOf told before after reports)

@@ -78,7 +78,7 @@ pub fn sent_fate(
 
 // What the messages are told as that a call takes out of the queues.
 pub fn leaving(told: Told) -> Part
-    ensures { λ r. ⌜ r ≡ Fates.leaving told ⌝ }
+    ensures { λ r. ⌜ r ≡ Fates.leavingPart told ⌝ }
 {
     if told.acknowledges {
         return Part::Acknowledging;

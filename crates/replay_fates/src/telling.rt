@@ -53,6 +53,42 @@ pub fn put_fates(
         count,
     );
     let at = put_fate(out, at, number, sent_fate(told, links, spans, rings, rows));
+    put_left(
+        out,
+        at,
+        number,
+        told,
+        oldspans,
+        oldrings,
+        oldrows,
+        spans,
+        rings,
+        rows,
+        reports,
+    )
+}
+
+// What left the queues that it stood in: taken out of all of them first, then moved to another.
+fn put_left(
+    out: &mut [u8],
+    at: usize,
+    number: u64,
+    told: Told,
+    oldspans: &[u16; 70],
+    oldrings: &[u8; 8960],
+    oldrows: &[u64; 2048],
+    spans: &[u16; 70],
+    rings: &[u8; 8960],
+    rows: &[u64; 2048],
+    reports: &[u64],
+) -> usize
+    ensures { λ r. ⌜ page (now (out .exit)) r ≡
+        puts (page (now (out .entry)) at)
+        (fateLines number
+        (Fates.leftOf told (held (now (oldspans .entry)) (now (oldrings .entry)) (now (oldrows .entry)))
+        (held (now (spans .entry)) (now (rings .entry)) (now (rows .entry))) (now (reports .entry)))) ⌝ }
+{
+    let count = told.reports;
     let part = leaving(told);
     let at = put_part(
         out,

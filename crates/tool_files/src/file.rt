@@ -59,7 +59,7 @@ pub fn rest(first: File, area: &mut [u8; 65536]) -> File {
 }
 
 // The next piece of a file, from a place of the area on.
-pub fn more(fd: i32, area: &mut [u8], from: usize) -> File {
+fn more(fd: i32, area: &mut [u8], from: usize) -> File {
     if area.len() < from {
         return failure(fd);
     }
@@ -98,8 +98,26 @@ fn plain(number: i64) -> u64 {
     if number > 0 { number as u64 } else { 0 }
 }
 
+// What was left of a piece, and how many octets came behind it, or that reading failed.
+pub struct Piece {
+    pub failed: bool,
+    pub rest: usize,
+    pub count: usize,
+}
+
+// The octets of a piece from a place up to another go to its front, and the next of the file stand behind them.
+pub fn next_piece(fd: i32, piece: &mut [u8; 65536], from: usize, to: usize) -> Piece {
+    let rest = move_to_front(piece, from, to);
+    let next = more(fd, piece, rest);
+    Piece {
+        failed: next.failed,
+        rest,
+        count: next.count,
+    }
+}
+
 // The octets of a piece from a place up to another, at its front; how many there are.
-pub fn move_to_front(piece: &mut [u8; 65536], from: usize, to: usize) -> usize {
+fn move_to_front(piece: &mut [u8; 65536], from: usize, to: usize) -> usize {
     let mut count = 0;
     let mut at = from;
     while at < to {

@@ -30,12 +30,13 @@ pub fn open(
     }
     let held = size(fd);
     if holds(
+        fd,
         &path[..length],
         held,
         configuration,
         configuration.len() as u64,
     )
-        || holds(&path[..length], held, piece, size_of_record)
+        || holds(fd, &path[..length], held, piece, size_of_record)
     {
         complain(
             program,
@@ -60,10 +61,13 @@ fn open_old(path: &[u8], straight: bool) -> i32 {
 }
 
 // Whether a file holds an input, of which the first octets are given: it is that file, by whatever
-// name, or a copy. One with no octets, or that has no places, as a pipe, has nothing to lose.
-fn holds(path: &[u8], held: u64, first: &[u8], size_of_input: u64) -> bool {
-    if held == 0 || held != size_of_input {
+// name, or a copy. One that has no places, as a pipe, can't be emptied and has nothing to lose.
+fn holds(fd: i32, path: &[u8], held: u64, first: &[u8], size_of_input: u64) -> bool {
+    if held != size_of_input {
         return false;
+    }
+    if held == 0 {
+        return first.len() == 0 && 0 <= libc::ftruncate(fd, 0);
     }
     let mut area = io::large_buffer();
     let fd = os::open_read(path);

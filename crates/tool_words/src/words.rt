@@ -28,7 +28,7 @@ pub fn put_reason(out: &mut [u8], at: usize, reason: u64) -> usize {
     put_listed(
         out,
         at,
-        b"no route\nsent, and what the far end took isn't known\nsent, and the changeover number isn't in range\n",
+        b"no route\nsent, and what the far end took isn't known\n",
         reason,
     )
 }

@@ -6,8 +6,8 @@ use trace_rows::held::Message;
 // What stands for any link, destination or circuit.
 pub const ANY: u64 = u64::MAX;
 
-// The lines that brought them, the link whose queue they stood in, their destination and circuit; whether only those that may be lost are
-// shown, or only sentences about links.
+// The lines that brought them, the link whose queue they stood in, their destination and circuit; whether only those that may be lost or only those that
+// may arrive twice are shown, or only sentences about links.
 pub struct Asked {
     pub first: u64,
     pub last: u64,
@@ -15,12 +15,13 @@ pub struct Asked {
     pub destination: u64,
     pub circuit: u64,
     pub lost: bool,
+    pub twice: bool,
     pub changeovers: bool,
 }
 
 // Whether a message is shown that may be lost, or isn't.
 pub fn shows(asked: Asked, message: Message, lost: bool) -> bool {
-    if asked.changeovers || (asked.lost && !lost) {
+    if asked.changeovers || ((asked.lost && !lost) || (asked.twice && !message.twice)) {
         return false;
     }
     if message.line < asked.first || asked.last < message.line {

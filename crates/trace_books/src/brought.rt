@@ -67,6 +67,7 @@ pub fn made(line: u64, origin: u64, destination: u64, sls: u64, name: u64) -> Me
         left: 0,
         stood: false,
         moves: 0,
+        twice: false,
     }
 }
 

@@ -1,51 +1,59 @@
 // Links that go out: what is known of each link from call to call, and the sentence of one that went out.
+use crate::cause::Cause;
+use crate::cause::put_cause;
+use area_links::LinkRecord;
 use area_links::load_link;
+use area_links::store_link;
 use constants::CHANGING;
+use constants::NO_LINK;
 use constants::OUT;
 use std::num::wrapping_add_u64;
 use text::part::between;
-use text::part::field;
 use text::part::line;
-use text::part::same;
 use text::put::put;
 use text_pages::put_number;
 use trace_messages::told::DROPPED;
 use trace_messages::told::MOVED;
 use trace_messages::told::RETIRED;
+use trace_messages::told::Told;
 use trace_messages::told::read;
-use wire_messages::management::Message as Management;
-use wire_messages::management::MessageRead;
-use wire_messages::management::read_message;
+use trace_messages::told::repeats;
+use trace_rows::held::load;
+use trace_rows::order::row_of;
 
-// The link that a call has put out, 32 where it has put out none, and the line at which it had failed, 0 where it hadn't.
+// The link that a call has put out, or none; the line at which it had failed, 0 where it hadn't; and its record before the call.
 pub struct Gone {
     pub link: u8,
     pub failed: u64,
+    pub before: LinkRecord,
 }
 
-// What is known of a link, its state and the line of its failure, is brought up to date behind a call.
+// What is known of a link, its record and the line of its failure, is brought up to date behind a call.
 pub fn follow(
     links: &[u32; 256],
-    states: &mut [u8; 32],
+    known: &mut [u32; 256],
     failures: &mut [u64; 32],
     call: u64,
 ) -> Gone {
     let mut gone = Gone {
-        link: 32,
+        link: NO_LINK,
         failed: 0,
+        before: load_link(known, NO_LINK),
     };
     let mut link = 0u8;
     while link < 32 {
-        let state = load_link(links, link).state;
-        let before = states[link as usize];
-        if state == OUT && before != OUT {
+        let after = load_link(links, link);
+        let before = load_link(known, link);
+        let failed = failures[link as usize];
+        if after.state == OUT && before.state != OUT {
             gone = Gone {
                 link,
-                failed: failures[link as usize],
+                failed,
+                before,
             };
         }
-        failures[link as usize] = failure(state, before, failures[link as usize], call);
-        states[link as usize] = state;
+        failures[link as usize] = failure(after.state, before.state, failed, call);
+        store_link(known, link, after);
         link += 1;
     }
     gone
@@ -62,14 +70,24 @@ fn failure(state: u8, before: u8, known: u64, call: u64) -> u64 {
     call
 }
 
-// How many messages were retired, moved and dropped by a call, behind how many moved to each of the 32 links.
+// How many messages were retired, moved and dropped by a call, and how many may arrive twice, behind how many moved to each of the 32 links.
 pub const RETIRED_AT: usize = 32;
 
 pub const MOVED_AT: usize = 33;
 
 pub const DROPPED_AT: usize = 34;
 
-pub fn count(answer: &[u8], counts: &mut [u64; 35]) {
+pub const TWICE_AT: usize = 35;
+
+// By the lines of its answer, the link that it leaves in doubt, and what was known of so many messages before it.
+pub fn count(
+    answer: &[u8],
+    doubted: u64,
+    messages: usize,
+    order: &[u8; 256],
+    held: &[u64; 8192],
+    counts: &mut [u64; 36],
+) {
     let mut at = 0;
     let mut turns = answer.len();
     while 0 < turns {
@@ -78,13 +96,14 @@ pub fn count(answer: &[u8], counts: &mut [u64; 35]) {
         if !part.closed {
             break;
         }
-        count_line(between(answer, at, part.end), counts);
+        let told = read(between(answer, at, part.end));
+        let message = load(held, row_of(order, held, messages, told.arrival));
+        count_line(told, repeats(told, message, doubted), counts);
         at = part.next;
     }
 }
 
-fn count_line(text: &[u8], counts: &mut [u64; 35]) {
-    let told = read(text);
+fn count_line(told: Told, twice: bool, counts: &mut [u64; 36]) {
     if told.word == RETIRED {
         count_at(counts, RETIRED_AT as u64);
     }
@@ -95,10 +114,13 @@ fn count_line(text: &[u8], counts: &mut [u64; 35]) {
     if told.word == DROPPED {
         count_at(counts, DROPPED_AT as u64);
     }
+    if twice {
+        count_at(counts, TWICE_AT as u64);
+    }
 }
 
-fn count_at(counts: &mut [u64; 35], place: u64) {
-    if place < 35 {
+fn count_at(counts: &mut [u64; 36], place: u64) {
+    if place < 36 {
         counts[place as usize] = wrapping_add_u64(counts[place as usize], 1);
     }
 }
@@ -108,16 +130,23 @@ pub fn put_sentence(
     out: &mut [u8; 2048],
     gone: Gone,
     call: u64,
-    text: &[u8],
-    octets: &[u8],
-    counts: &[u64; 35],
+    cause: Cause,
+    counts: &[u64; 36],
 ) -> usize {
     let at = put_start(out, gone, call);
-    let at = put_cause(out, at, text, octets);
+    let at = put_cause(out, at, cause);
     let at = put_count(out, at, b"; ", counts[RETIRED_AT], b" retired, ");
     let at = put_count(out, at, b"", counts[MOVED_AT], b" moved");
     let at = put_goals(out, at, counts);
-    put_count(out, at, b", ", counts[DROPPED_AT], b" dropped")
+    let at = put_count(out, at, b", ", counts[DROPPED_AT], b" dropped");
+    put_twice(out, at, counts[TWICE_AT])
+}
+
+fn put_twice(out: &mut [u8], at: usize, count: u64) -> usize {
+    if count == 0 {
+        return at;
+    }
+    put_count(out, at, b", ", count, b" may arrive twice")
 }
 
 fn put_start(out: &mut [u8], gone: Gone, call: u64) -> usize {
@@ -135,34 +164,13 @@ fn put_failed(out: &mut [u8], at: usize, failed: u64) -> usize {
     put_count(out, at, b"failed at line ", failed, b", ")
 }
 
-// What put the link out: the call, or the message that it brought.
-pub fn put_cause(out: &mut [u8], at: usize, text: &[u8], octets: &[u8]) -> usize {
-    let kind = field(text, 0, text.len());
-    let word = between(text, 0, kind.end);
-    if same(word, b"t1") {
-        return put(out, at, b"T1");
-    }
-    if same(word, b"t2") {
-        return put(out, at, b"T2");
-    }
-    let MessageRead::Read(message) = read_message(octets) else {
-        return put(out, at, b"its failure while waiting");
-    };
-    match message {
-        Management::COO(number) => put_count(out, at, b"COO with number ", number as u64, b""),
-        Management::COA(number) => put_count(out, at, b"COA with number ", number as u64, b""),
-        Management::ECO => put(out, at, b"ECO"),
-        _ => put(out, at, b"ECA"),
-    }
-}
-
 fn put_count(out: &mut [u8], at: usize, before: &[u8], count: u64, behind: &[u8]) -> usize {
     let at = put(out, at, before);
     put_number(out, at, count, behind)
 }
 
 // How many moved to each link, in brackets, where something moved.
-fn put_goals(out: &mut [u8; 2048], from: usize, counts: &[u64; 35]) -> usize {
+fn put_goals(out: &mut [u8; 2048], from: usize, counts: &[u64; 36]) -> usize {
     let mut at = from;
     let mut first = true;
     let mut link = 0;

@@ -2,5 +2,6 @@
 // about links that went out.
 pub mod asked;
 pub mod brought;
+pub mod cause;
 pub mod changeover;
 pub mod take;

@@ -3,6 +3,7 @@ use crate::asked::Asked;
 use crate::asked::shows;
 use crate::brought::made;
 use area_slots::load_slot;
+use std::num::wrapping_add_u64;
 use text::part::between;
 use text::part::line;
 use tool_files::writer::Writer;
@@ -17,6 +18,7 @@ use trace_messages::told::RETIRED;
 use trace_messages::told::SENT;
 use trace_messages::told::Told;
 use trace_messages::told::read;
+use trace_messages::told::repeats;
 use trace_rows::held::Message;
 use trace_rows::held::Move;
 use trace_rows::held::load;
@@ -32,12 +34,13 @@ pub struct Books {
     pub lines: Writer,
 }
 
-// A call: its line's number, the message that it brings, the changeover number in that, and our code.
+// A call: its line's number, the message that it brings, the changeover number in that, our code, and the link that it leaves in doubt.
 pub struct Call {
     pub line: u64,
     pub message: Message,
     pub number: u64,
     pub code: u64,
+    pub doubted: u64,
 }
 
 // The answer to a call, line by line.
@@ -151,16 +154,23 @@ fn change(asked: Asked, call: Call, told: Told, held: &mut [u64; 8192], row: u8)
         store(held, row, message);
         return;
     }
+    let twice = repeats(told, message, call.doubted);
     let made = Move {
         from: told.first,
         to: told.second,
         line: call.line,
+        resent: if twice {
+            wrapping_add_u64(message.fsn, 1)
+        } else {
+            0
+        },
     };
     store_move(held, row, message.moves, made);
-    message.moves = std::num::wrapping_add_u64(message.moves, 1);
+    message.moves = wrapping_add_u64(message.moves, 1);
     message.place = told.second;
     message.sent = false;
     message.stood = message.stood || told.second == asked.link;
+    message.twice = message.twice || twice;
     store(held, row, message);
 }
 

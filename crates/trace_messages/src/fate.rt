@@ -5,6 +5,7 @@ use text::put::put;
 use text_pages::put_number;
 use tool_words::words::put_reason;
 use trace_rows::held::Message;
+use trace_rows::held::Move;
 use trace_rows::held::load;
 use trace_rows::held::load_move;
 
@@ -59,10 +60,21 @@ fn put_before(out: &mut [u8], at: usize, count: u64) -> usize {
 
 fn put_move(out: &mut [u8], at: usize, rows: &[u64; 8192], row: u8, number: u64) -> usize {
     let made = load_move(rows, row, number);
+    if 0 < made.resent {
+        return put_resent(out, at, made, made.resent - 1);
+    }
     let at = put(out, at, b"moved ");
     let at = put_place(out, at, made.from, b" to ");
     let at = put_place(out, at, made.to, b" at ");
     put_number(out, at, made.line, b"; ")
+}
+
+// A move off a link whose far end may have the message already.
+fn put_resent(out: &mut [u8], at: usize, made: Move, fsn: u64) -> usize {
+    let at = put(out, at, b"sent");
+    let at = put_sent(out, at, made.from, fsn, b", moved to ");
+    let at = put_place(out, at, made.to, b" at ");
+    put_number(out, at, made.line, b", may arrive twice; ")
 }
 
 // A link, or `apart`.
@@ -78,12 +90,12 @@ fn put_ending(out: &mut [u8], at: usize, message: Message, ending: Ending) -> us
     match ending {
         Ending::Acknowledged(line) => {
             let at = put(out, at, b"acknowledged");
-            let at = put_sent(out, at, message, b" at ");
+            let at = put_sent(out, at, message.place, message.fsn, b" at ");
             put_number(out, at, line, b"\n")
         }
         Ending::Retired(number, line) => {
             let at = put(out, at, b"retired");
-            let at = put_sent(out, at, message, b" by ");
+            let at = put_sent(out, at, message.place, message.fsn, b" by ");
             let at = put_number(out, at, number, b" at ");
             put_number(out, at, line, b"\n")
         }
@@ -98,16 +110,16 @@ fn put_ending(out: &mut [u8], at: usize, message: Message, ending: Ending) -> us
 }
 
 // The link that it left on, and its number there.
-fn put_sent(out: &mut [u8], at: usize, message: Message, behind: &[u8]) -> usize {
+fn put_sent(out: &mut [u8], at: usize, link: u64, fsn: u64, behind: &[u8]) -> usize {
     let at = put(out, at, b" on ");
-    let at = put_place(out, at, message.place, b" as ");
-    put_number(out, at, message.fsn, behind)
+    let at = put_number(out, at, link, b" as ");
+    put_number(out, at, fsn, behind)
 }
 
 fn put_held(out: &mut [u8], at: usize, message: Message) -> usize {
     if message.sent {
         let at = put(out, at, b"sent");
-        let at = put_sent(out, at, message, b" at ");
+        let at = put_sent(out, at, message.place, message.fsn, b" at ");
         return put_number(out, at, message.left, b", not acknowledged\n");
     }
     if message.place == APART {

@@ -3,6 +3,7 @@ use text::part::between;
 use text::part::field;
 use tool_words::lines::number_of;
 use tool_words::lines::value;
+use trace_rows::held::Message;
 
 // The words, by their number.
 pub const QUEUED: u64 = 1;
@@ -19,6 +20,9 @@ pub const DROPPED: u64 = 6;
 
 // The number of a queue that is no link's; `apart`, which stands for it, says no number.
 pub const APART: u64 = 32;
+
+// What stands for no queue.
+pub const NO_QUEUE: u64 = 33;
 
 // A word, 0 for one that tells nothing of a message; the numbers behind it, a queue's among them; and of a message that the node made the letters of its name.
 pub struct Told {
@@ -46,6 +50,11 @@ pub fn read(line: &[u8]) -> Told {
         second: value(last, APART),
         name: letters(last),
     }
+}
+
+// Whether a line tells that a message may arrive twice: it moved off a link in doubt, and had been sent there.
+pub fn repeats(told: Told, message: Message, doubted: u64) -> bool {
+    told.word == MOVED && (message.sent && told.first == doubted)
 }
 
 // Three letters in one number, the first the lowest octet; 0 where there aren't three.

@@ -4,6 +4,7 @@ use crate::groups::Group;
 use crate::groups::going;
 use crate::groups::leaving;
 use crate::groups::limited;
+use crate::groups::link_of;
 use crate::groups::none;
 use crate::rows::Row;
 use crate::rows::put_group;
@@ -24,11 +25,10 @@ use tool_files::writer::add;
 use trace_messages::told::Told;
 use trace_messages::told::read;
 use trace_rows::held::load;
-use trace_rows::order::place_of;
-use trace_rows::order::row_at;
+use trace_rows::order::row_of;
 
 // What is drawn: our code, the far point's, the link that went out, the lines of its failure (0 where it hadn't failed) and of the call,
-// whether a message put it out, and how many messages are held.
+// whether a message put it out, the link if it is left in doubt, and how many messages are held.
 pub struct Scene {
     pub code: u64,
     pub far: u64,
@@ -36,6 +36,7 @@ pub struct Scene {
     pub failed: u64,
     pub call: u64,
     pub by_message: bool,
+    pub doubted: u64,
     pub held: usize,
 }
 
@@ -50,7 +51,7 @@ pub fn draw(
     sentence: &[u8],
     cause: &[u8],
     answer: &[u8],
-    counts: &[u64; 35],
+    counts: &[u64; 36],
     order: &[u8; 256],
     held: &[u64; 8192],
 ) -> Picture {
@@ -95,7 +96,7 @@ pub fn draw(
 }
 
 // The column of a link among those that messages moved to, counted from 0; of no link, how many they are.
-fn column_of(counts: &[u64; 35], link: u64) -> u64 {
+fn column_of(counts: &[u64; 36], link: u64) -> u64 {
     let mut column = 0;
     let mut at = 0;
     while at < 32 {
@@ -135,7 +136,7 @@ fn with_heads(
     picture: Picture,
     area: &mut [u8; 65536],
     scene: Scene,
-    counts: &[u64; 35],
+    counts: &[u64; 36],
     columns: u64,
 ) -> Picture {
     let y = wrapping_add_u64(picture.y, STEP);
@@ -171,7 +172,7 @@ fn put_head(out: &mut [u8], word: &[u8], number: u64, x: u64, y: u64) -> usize {
     put_end(out, at)
 }
 
-fn with_goals(file: Writer, area: &mut [u8; 65536], counts: &[u64; 35], y: u64) -> Writer {
+fn with_goals(file: Writer, area: &mut [u8; 65536], counts: &[u64; 36], y: u64) -> Writer {
     let mut next = file;
     let mut link = 0;
     while link < 32 {
@@ -192,7 +193,7 @@ fn with_groups(
     gone: bool,
     columns: u64,
     answer: &[u8],
-    counts: &[u64; 35],
+    counts: &[u64; 36],
     order: &[u8; 256],
     held: &[u64; 8192],
 ) -> Picture {
@@ -207,8 +208,8 @@ fn with_groups(
             break;
         }
         let told = read(between(answer, at, part.end));
-        let row = row_of(scene, told, order, held);
-        let alike = limited(alike_of(gone, told, held, row), group.before);
+        let row = row_of(order, held, scene.held, told.arrival);
+        let alike = limited(alike_of(scene, gone, told, held, row), group.before);
         if alike == group.alike {
             group = longer(group, row);
         } else if 0 < alike {
@@ -220,16 +221,12 @@ fn with_groups(
     with_group(next, area, scene, columns, counts, held, group)
 }
 
-fn row_of(scene: Scene, told: Told, order: &[u8; 256], held: &[u64; 8192]) -> u8 {
-    row_at(order, place_of(order, held, scene.held, told.arrival))
-}
-
-fn alike_of(gone: bool, told: Told, held: &[u64; 8192], row: u8) -> u64 {
+fn alike_of(scene: Scene, gone: bool, told: Told, held: &[u64; 8192], row: u8) -> u64 {
     let message = load(held, row);
     if gone {
-        going(told, message)
+        going(told, message, scene.doubted)
     } else {
-        leaving(told, message)
+        leaving(told, message, scene.doubted)
     }
 }
 
@@ -257,7 +254,7 @@ fn with_group(
     area: &mut [u8; 65536],
     scene: Scene,
     columns: u64,
-    counts: &[u64; 35],
+    counts: &[u64; 36],
     held: &[u64; 8192],
     group: Group,
 ) -> Picture {
@@ -267,7 +264,7 @@ fn with_group(
     let row = Row {
         y: picture.y,
         columns,
-        goal: wrapping_add_u64(column_of(counts, group.alike / 2 % 32), 1),
+        goal: wrapping_add_u64(column_of(counts, link_of(group.alike)), 1),
         call: scene.call,
     };
     let mut out = [0u8; 2048];

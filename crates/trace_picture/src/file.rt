@@ -18,16 +18,29 @@ pub struct Picture {
 }
 
 // Where the first ladder begins.
-const TOP: u64 = 20;
+const TOP: u64 = 40;
 
-// A drawing in a file that is empty; with a negative one nothing is drawn.
+// A drawing in a file that is empty, which begins with what its arrows mean; with a negative one nothing is drawn.
 pub fn begin(fd: i32, area: &mut [u8; 65536]) -> Picture {
     let mut file = onto(fd);
     if 0 <= fd {
-        file = add(
-            file,
-            area,
-            b"<svg xmlns=\"http://www.w3.org/2000/svg\" width=\"0000000000\" height=\"0000000000\">
+        file = with_styles(file, area);
+        file = with_points(file, area);
+        file = with_legend(file, area);
+    }
+    Picture {
+        file,
+        y: TOP,
+        wide: 1000,
+    }
+}
+
+// The head, and how texts and arrows look.
+fn with_styles(file: Writer, area: &mut [u8; 65536]) -> Writer {
+    add(
+        file,
+        area,
+        b"<svg xmlns=\"http://www.w3.org/2000/svg\" width=\"0000000000\" height=\"0000000000\">
 <title>Changeovers</title>
 <style>
 text { font: 14px sans-serif; fill: #1f2328; dominant-baseline: middle }
@@ -38,16 +51,28 @@ line { stroke-width: 2 }
 .v { stroke: #8c959f; stroke-width: 1 }
 .taken { stroke: #1a7f37; marker-end: url(#taken) }
 .moved { stroke: #0969da; marker-end: url(#moved) }
+.twice { stroke: #8250df; stroke-dasharray: 10 3; marker-end: url(#twice) }
 .cut { stroke: #bc4c00; stroke-dasharray: 6 4; marker-end: url(#cut) }
 .unknown, .dropped { stroke: #cf222e; stroke-dasharray: 2 4; marker-end: url(#dropped) }
 .told { stroke: #59636e; marker-end: url(#told) }
 .fails { stroke: #cf222e; stroke-width: 4 }
 </style>
-<defs>
+",
+    )
+}
+
+// The points of the arrows.
+fn with_points(file: Writer, area: &mut [u8; 65536]) -> Writer {
+    add(
+        file,
+        area,
+        b"<defs>
 <marker id=\"taken\" markerUnits=\"userSpaceOnUse\" markerWidth=\"12\" markerHeight=\"12\" refX=\"11\" refY=\"6\" orient=\"auto\">
 <path d=\"M0 1L12 6L0 11z\" fill=\"#1a7f37\"/></marker>
 <marker id=\"moved\" markerUnits=\"userSpaceOnUse\" markerWidth=\"12\" markerHeight=\"12\" refX=\"11\" refY=\"6\" orient=\"auto\">
 <path d=\"M0 1L12 6L0 11z\" fill=\"#0969da\"/></marker>
+<marker id=\"twice\" markerUnits=\"userSpaceOnUse\" markerWidth=\"12\" markerHeight=\"12\" refX=\"11\" refY=\"6\" orient=\"auto\">
+<path d=\"M0 1L12 6L0 11z\" fill=\"#8250df\"/></marker>
 <marker id=\"told\" markerUnits=\"userSpaceOnUse\" markerWidth=\"12\" markerHeight=\"12\" refX=\"11\" refY=\"6\" orient=\"auto\">
 <path d=\"M0 1L12 6L0 11z\" fill=\"#59636e\"/></marker>
 <marker id=\"cut\" markerUnits=\"userSpaceOnUse\" markerWidth=\"12\" markerHeight=\"12\" refX=\"6\" refY=\"6\">
@@ -55,15 +80,23 @@ line { stroke-width: 2 }
 <marker id=\"dropped\" markerUnits=\"userSpaceOnUse\" markerWidth=\"12\" markerHeight=\"12\" refX=\"6\" refY=\"6\">
 <path d=\"M1 1L11 11M11 1L1 11\" stroke=\"#cf222e\" stroke-width=\"2\"/></marker>
 </defs>
-<rect width=\"100%\" height=\"100%\" fill=\"#ffffff\"/>
 ",
-        );
-    }
-    Picture {
+    )
+}
+
+// What the arrows mean, in a line at the top.
+fn with_legend(file: Writer, area: &mut [u8; 65536]) -> Writer {
+    add(
         file,
-        y: TOP,
-        wide: 600,
-    }
+        area,
+        b"<rect width=\"100%\" height=\"100%\" fill=\"#ffffff\"/>
+<line class=\"taken\" x1=\"16\" y1=\"24\" x2=\"56\" y2=\"24\"/><text x=\"64\" y=\"24\">taken</text>
+<line class=\"cut\" x1=\"130\" y1=\"24\" x2=\"164\" y2=\"24\"/><text x=\"178\" y=\"24\">not taken</text>
+<line class=\"unknown\" x1=\"266\" y1=\"24\" x2=\"300\" y2=\"24\"/><text x=\"314\" y=\"24\">not known whether taken, or dropped</text>
+<line class=\"moved\" x1=\"616\" y1=\"24\" x2=\"656\" y2=\"24\"/><text x=\"664\" y=\"24\">moved</text>
+<line class=\"twice\" x1=\"736\" y1=\"24\" x2=\"776\" y2=\"24\"/><text x=\"784\" y=\"24\">moved, may arrive twice</text>
+",
+    )
 }
 
 // The drawing ends, and its size is put in its place. Answers whether all could be written; what couldn't is told.
@@ -76,7 +109,7 @@ pub fn end(picture: Picture, area: &mut [u8; 65536]) -> bool {
         file = add(
             file,
             area,
-            b"<text x=\"16\" y=\"40\">No link went out.</text>\n",
+            b"<text x=\"16\" y=\"60\">No link went out.</text>\n",
         );
     }
     file = add(file, area, b"</svg>\n");

@@ -3,10 +3,11 @@ use trace_messages::told::DROPPED;
 use trace_messages::told::MOVED;
 use trace_messages::told::RETIRED;
 use trace_messages::told::Told;
+use trace_messages::told::repeats;
 use trace_rows::held::Message;
 
-// How they are alike: sent and taken, sent and not taken, sent and not known whether taken; dropped for a reason; moved to a link, sent there
-// before or never; and those behind so many groups that they aren't told apart any more.
+// How they are alike: sent and taken, sent and not taken, sent and not known whether taken; dropped for a reason; moved to a link, never sent before,
+// sent before, or sent before so that they may arrive twice; and those behind so many groups that they aren't told apart any more.
 pub const TAKEN: u64 = 1;
 
 pub const NOT_TAKEN: u64 = 2;
@@ -17,7 +18,16 @@ pub const MORE: u64 = 4;
 
 pub const DROPPED_FOR: u64 = 8;
 
-pub const MOVED_TO: u64 = 64;
+pub const MOVED_TO: u64 = 128;
+
+pub const NOT_SENT: u64 = 0;
+
+pub const SENT: u64 = 1;
+
+pub const TWICE: u64 = 2;
+
+// The reason of a drop where it isn't known what the far end took.
+const UNKNOWN: u64 = 2;
 
 // What is alike, how many there are, the rows of the first and the last; and how many groups were drawn before.
 pub struct Group {
@@ -39,23 +49,28 @@ pub fn none() -> Group {
 }
 
 // What is drawn of a message above the failure: how it left; 0 where it didn't.
-pub fn leaving(told: Told, message: Message) -> u64 {
+pub fn leaving(told: Told, message: Message, doubted: u64) -> u64 {
     if !message.sent {
         return 0;
     }
     if told.word == RETIRED {
         return TAKEN;
     }
-    if told.word == MOVED {
-        return NOT_TAKEN;
+    let dropped = told.word == DROPPED;
+    if message.place == doubted || (dropped && told.first == UNKNOWN) {
+        return NOT_KNOWN;
     }
-    if told.word == DROPPED { NOT_KNOWN } else { 0 }
+    if dropped || told.word == MOVED {
+        NOT_TAKEN
+    } else {
+        0
+    }
 }
 
 // What is drawn of it below the changeover: where it went.
-pub fn going(told: Told, message: Message) -> u64 {
+pub fn going(told: Told, message: Message, doubted: u64) -> u64 {
     if told.word == MOVED {
-        return moving(told.second, message.sent);
+        return moving(told, message, doubted);
     }
     if told.word == DROPPED {
         DROPPED_FOR + told.first % 8
@@ -64,9 +79,25 @@ pub fn going(told: Told, message: Message) -> u64 {
     }
 }
 
-fn moving(link: u64, sent: bool) -> u64 {
-    let place = MOVED_TO + 2 * (link % 64);
-    if sent { place + 1 } else { place }
+fn moving(told: Told, message: Message, doubted: u64) -> u64 {
+    let place = MOVED_TO + 4 * (told.second % 32);
+    if repeats(told, message, doubted) {
+        return place + TWICE;
+    }
+    if message.sent {
+        place + SENT
+    } else {
+        place + NOT_SENT
+    }
+}
+
+// The link that a group moved to, and how.
+pub fn link_of(alike: u64) -> u64 {
+    alike / 4 % 32
+}
+
+pub fn manner_of(alike: u64) -> u64 {
+    alike % 4
 }
 
 // At most so many groups are told apart.

@@ -3,8 +3,12 @@ use crate::groups::DROPPED_FOR;
 use crate::groups::Group;
 use crate::groups::MORE;
 use crate::groups::MOVED_TO;
+use crate::groups::NOT_SENT;
 use crate::groups::NOT_TAKEN;
 use crate::groups::TAKEN;
+use crate::groups::TWICE;
+use crate::groups::link_of;
+use crate::groups::manner_of;
 use crate::shapes::OURS;
 use crate::shapes::put_end;
 use crate::shapes::put_line;
@@ -77,6 +81,9 @@ fn put_leaving(out: &mut [u8], at: usize, row: Row, alike: u64) -> usize {
 }
 
 fn put_going(out: &mut [u8], at: usize, row: Row, alike: u64) -> usize {
+    if MOVED_TO <= alike && manner_of(alike) == TWICE {
+        return put_line(out, at, b"twice", x_of(0), row.y, x_of(row.goal), row.y);
+    }
     if MOVED_TO <= alike {
         return put_line(out, at, b"moved", x_of(0), row.y, x_of(row.goal), row.y);
     }
@@ -102,17 +109,20 @@ fn put_gone(out: &mut [u8], at: usize, group: Group) -> usize {
     }
     if MOVED_TO <= group.alike {
         let at = put_number(out, at, group.count, b" moved to link ");
-        let at = put_number(out, at, group.alike / 2 % 32, b"");
-        return put_before(out, at, group.alike % 2);
+        let at = put_number(out, at, link_of(group.alike), b"");
+        return put_before(out, at, manner_of(group.alike));
     }
     let at = put_number(out, at, group.count, b" dropped, ");
     let at = put_reason(out, at, group.alike % DROPPED_FOR);
     put(out, at, b": ")
 }
 
-fn put_before(out: &mut [u8], at: usize, sent: u64) -> usize {
-    if sent == 0 {
+fn put_before(out: &mut [u8], at: usize, manner: u64) -> usize {
+    if manner == NOT_SENT {
         return put(out, at, b", not sent before: ");
+    }
+    if manner == TWICE {
+        return put(out, at, b", may arrive twice: ");
     }
     put(out, at, b", sent before: ")
 }

@@ -1,7 +1,7 @@
 -- `fate_lines::put_fate` meets its contract: what became of the message says which line is put. Assumes nothing.
 use borrow.Author.Needs.{needs}
 use mathlib.Core.Path.{refl, _∙_}
-use mathlib.Core.List.{List, [], _∷_}
+use mathlib.Core.List.{List}
 use Prim.Native.Nat.{ℕ}
 use Rattle.text_pages.specs.Page.{Page, page}
 use Rattle.text_pages.proofs.Pages.{follow, last, ends, put-by}

@@ -1,9 +1,9 @@
 -- `fate_places::queue_of` meets its contract: the queues are searched in order, and the measure is those left. Assumes nothing.
 use borrow.Author.Needs.{needs}
-use mathlib.Core.Path.{_≡_, sym, _∙_}
+use mathlib.Core.Path.{sym, _∙_}
 use mathlib.Core.Bool.{Bool}
 use Prim.Native.Nat.{ℕ, _-_}
-use Rattle.fate_places.specs.Places.{Held, held, stands, nowhere, queueOf}
+use Rattle.fate_places.specs.Places.{Held, held, stands, nowhere, queueWith}
 use Rattle.fate_places.proofs.Seek.{Sought, sought-none, sought-on, sought-hit, sought-end}
 use Rattle.fate_places.proofs.queue_of.Statement.{statement}
 use Rattle.fate_places.proofs.queue_of.Tie as tie
@@ -24,7 +24,7 @@ stands-requires : tie.Need-stands-requires Inv-loop μ-loop
 stands-requires c κs = search needs
 
 returns : tie.Need-returns Inv-loop μ-loop
-unfolding queueOf
+unfolding queueWith
 returns c =
     let a = c .before .before .before .before .args in
     let l = c .before .before .before .loop in
@@ -45,7 +45,7 @@ loop-again c =
     (sym (c .before .stands .ensures) ∙ c .if1 .left)
 
 returns-2 : tie.Need-returns-2 Inv-loop μ-loop
-unfolding queueOf
+unfolding queueWith
 returns-2 c =
     let a = c .before .before .args in
     let l = c .before .loop in

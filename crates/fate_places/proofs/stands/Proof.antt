@@ -1,11 +1,9 @@
 -- `fate_places::stands` meets its contract: the places are searched in order, and the measure is those left. Assumes nothing.
 use borrow.Author.Needs.{needs}
 use borrow.Author.Tests.{eq-eqb, ne-eqb}
-use mathlib.Core.Path.{_≡_, sym, ap, subst, _∙_}
+use mathlib.Core.Path.{_≡_, sym, ap, _∙_}
 use mathlib.Core.Bool.{Bool, true, false}
-use mathlib.Core.List.{List}
 use Prim.Native.Nat.{ℕ, _-_}
-use native.Mathlib.Omega.{arith}
 use lib.Dec.{eqb}
 use Rattle.area_slots.specs.declared.Slot.{Slot}
 use Rattle.fate_places.specs.Places.{Held, held, seek, places, messageAt, stands}

@@ -5,7 +5,7 @@ use mathlib.Core.Path.{_≡_, sym, subst, _∙_}
 use mathlib.Core.Bool.{true, false}
 use mathlib.Core.List.{List}
 use Prim.Native.Nat.{ℕ, _<_, _≤_}
-use Rattle.fate_places.specs.Places.{Held, held, nowhere, stays, isDropped, stands, queueOf, dropped, whither}
+use Rattle.fate_places.specs.Places.{Held, held, nowhere, stays, toldDropped, stands, queueWith, dropped, whither}
 use Rattle.fate_places.proofs.whither.Statement.{statement}
 use Rattle.fate_places.proofs.whither.Tie as tie
 
@@ -14,19 +14,19 @@ module _ (h : Held) (reports : List ℕ) (count queue arrival : ℕ) where
   unfolding whither
   here e = simp e
 
-  module _ (left : stands h queue arrival ≡ false) (other : ℕ) (is : other ≡ queueOf h arrival) where
+  module _ (left : stands h queue arrival ≡ false) (other : ℕ) (is : other ≡ queueWith h arrival) where
     elsewhere : other < nowhere → other ≡ whither h reports count queue arrival
     unfolding whither
-    elsewhere below = is ∙ simp (left, lt-ltb (queueOf h arrival) nowhere (subst (λ (n : ℕ). n < nowhere) is below))
+    elsewhere below = is ∙ simp (left, lt-ltb (queueWith h arrival) nowhere (subst (λ (n : ℕ). n < nowhere) is below))
 
     module _ (none : nowhere ≤ other) where
-      reported : dropped reports count arrival ≡ true → isDropped ≡ whither h reports count queue arrival
+      reported : dropped reports count arrival ≡ true → toldDropped ≡ whither h reports count queue arrival
       unfolding whither
-      reported e = simp (left, le-ltb (queueOf h arrival) nowhere (subst (λ (n : ℕ). nowhere ≤ n) is none), e)
+      reported e = simp (left, le-ltb (queueWith h arrival) nowhere (subst (λ (n : ℕ). nowhere ≤ n) is none), e)
 
       gone : dropped reports count arrival ≡ false → nowhere ≡ whither h reports count queue arrival
       unfolding whither
-      gone e = simp (left, le-ltb (queueOf h arrival) nowhere (subst (λ (n : ℕ). nowhere ≤ n) is none), e)
+      gone e = simp (left, le-ltb (queueWith h arrival) nowhere (subst (λ (n : ℕ). nowhere ≤ n) is none), e)
 
 abbrev areas : tie.Start → Held
 areas s = held (s .args .spans .now) (s .args .rings .now) (s .args .rows .now)

@@ -2,11 +2,10 @@
 use borrow.Author.Needs.{needs}
 use borrow.Author.Tests.{lt-ltb, le-ltb, eq-eqb, ne-eqb}
 use mathlib.Core.Path.{_≡_, sym, ap, _∙_}
-use Prim.Native.Nat.{ℕ, _<_, _≤_}
+use Prim.Native.Nat.{ℕ}
 use Rattle.area_slots.specs.declared.Slot.{Slot}
 use Rattle.fate_places.specs.Places.{nowhere}
 use Rattle.fate_lines.specs.declared.Fate.{Fate}
-use Rattle.fate_lines.specs.declared.Fate.the-variants.{Unchanged, Queued, Acknowledged, Retired, Moved}
 use Rattle.replay_fates.specs.declared.deciding.Part.{Part}
 use Rattle.replay_fates.specs.declared.deciding.Part.the-variants.{Arriving, Acknowledging, Retiring, Moving}
 use Rattle.replay_fates.specs.Fates.{fateOf}

@@ -6,10 +6,9 @@ use Rattle.text_pages.proofs.Pages.{follow, last}
 use Rattle.fate_places.specs.Places.{held}
 use Rattle.fate_lines.specs.declared.Fate.{Fate}
 use Rattle.fate_lines.specs.Lines.{fateLine, fateLines}
-use Rattle.replay_fates.specs.declared.deciding.Part.{Part}
-use Rattle.replay_fates.specs.declared.deciding.Part.the-variants.{Arriving, Moving}
-use Rattle.replay_fates.specs.Fates.{fatesIn, sentFate, leaving, fatesOf}
-use Rattle.replay_fates.proofs.Walking.{four-parts}
+use Rattle.replay_fates.specs.declared.deciding.Part.the-variants.{Arriving}
+use Rattle.replay_fates.specs.Fates.{fatesIn, sentFate, leftOf, fatesOf}
+use Rattle.replay_fates.proofs.Walking.{three-parts}
 use Rattle.replay_fates.proofs.telling.put_fates.Statement.{statement}
 use Rattle.replay_fates.proofs.telling.put_fates.Tie as tie
 
@@ -22,14 +21,8 @@ sent-fate-requires c κs = search needs
 put-fate-requires : tie.Need-put-fate-requires
 put-fate-requires c κs = search needs
 
-leaving-requires : tie.Need-leaving-requires
-leaving-requires c κs = search needs
-
-put-part-requires-2 : tie.Need-put-part-requires-2
-put-part-requires-2 c κs = search needs
-
-put-part-requires-3 : tie.Need-put-part-requires-3
-put-part-requires-3 c κs = search needs
+put-left-requires : tie.Need-put-left-requires
+put-left-requires c κs = search needs
 
 same-length : tie.Need-same-length
 same-length c = search needs
@@ -37,25 +30,19 @@ same-length c = search needs
 returns : tie.Need-returns
 unfolding fatesOf
 returns c =
-    let a = c .before .before .before .before .before .before .before .before .before .before .before .before .before .before .before .before .before .before .before .before .args in
+    let a = c .before .before .before .before .before .before .before .before .before .before .before .before .before .before .before .args in
     let before = held (a .oldspans .now) (a .oldrings .now) (a .oldrows .now) in
     let after = held (a .spans .now) (a .rings .now) (a .rows .now) in
-    let count = a .told .reports in
-    let n = c .before .before .before .before .before .before .before .before .before .before .before .before .before .before .before .before .put-part in
-    let s = c .before .before .before .before .before .before .before .before .before .before .before .put-fate in
-    let l = c .before .before .before .before .before .before .put-part2 in
-    let new = fatesIn (Arriving (a .told .next)) after after (a .reports .now) count in
+    let n = c .before .before .before .before .before .before .before .before .before .before .before .put-part in
+    let s = c .before .before .before .before .before .before .put-fate in
+    let new = fatesIn (Arriving (a .told .next)) after after (a .reports .now) (a .told .reports) in
     let sent = sentFate (a .told) (a .links .now) after in
-    let left = fatesIn (leaving (a .told)) before after (a .reports .now) count in
-    let moved = fatesIn Moving before after (a .reports .now) count in
+    let left = leftOf (a .told) before after (a .reports .now) in
     follow (a .out .now) (a .at) (fateLines (a .number) new) (n .ensures)
     (follow (n .last .0) (n .result) (fateLine (a .number) sent)
-    (s .ensures ∙ ap (λ (f : Fate). puts (page (n .last .0) (n .result)) (fateLine (a .number) f)) (c .before .before .before .before .before .before .before .before .before .before .before .before .sent-fate .ensures))
-    (follow (s .last .0) (s .result) (fateLines (a .number) left)
-    (l .ensures
-    ∙ ap (λ (p : Part). puts (page (s .last .0) (s .result)) (fateLines (a .number) (fatesIn p before after (a .reports .now) count))) (c .before .before .before .before .before .before .before .before .leaving .ensures))
-    (last (c .before .before .put-part3 .ensures)))) .as-put
-    ∙ ap (puts (page (a .out .now) (a .at))) (four-parts (a .number) new sent left moved)
+    (s .ensures ∙ ap (λ (f : Fate). puts (page (n .last .0) (n .result)) (fateLine (a .number) f)) (c .before .before .before .before .before .before .before .sent-fate .ensures))
+    (last (c .before .before .put-left .ensures))) .as-put
+    ∙ ap (puts (page (a .out .now) (a .at))) (three-parts (a .number) new sent left)
 
 pub put-fates-spec : {M : Type 1} → statement M
 put-fates-spec =
@@ -64,8 +51,6 @@ put-fates-spec =
     put-part-requires
     sent-fate-requires
     put-fate-requires
-    leaving-requires
-    put-part-requires-2
-    put-part-requires-3
+    put-left-requires
     same-length
     returns)

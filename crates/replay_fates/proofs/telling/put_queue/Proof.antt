@@ -1,7 +1,7 @@
 -- `replay_fates::telling::put_queue` meets its contract. The loop's invariant: what is written and then the places left make what all make.
 -- The measure is how many are left. Assumes nothing.
 use borrow.Author.Needs.{needs}
-use mathlib.Core.Path.{_≡_, refl, sym, ap, _∙_}
+use mathlib.Core.Path.{_≡_, refl, ap, _∙_}
 use mathlib.Core.List.{List}
 use Prim.Native.Nat.{ℕ, _+_, _-_, _≤_}
 use native.Mathlib.Nat.{sub-zero}

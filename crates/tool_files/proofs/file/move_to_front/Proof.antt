@@ -1,10 +1,7 @@
 -- `tool_files::file::move_to_front` ends: each turn moves one octet.
 -- Assumes nothing.
 use borrow.Author.Needs.{needs}
-use mathlib.Core.Path.{_≡_, refl, sym, ap, _∙_}
-use Prim.Native.Nat.{ℕ, _+_, _-_, _≤_, _<_}
-use native.Mathlib.Omega.{arith}
-use lib.ListN.{length, take, drop, getD, length-take}
+use Prim.Native.Nat.{_-_, _≤_}
 use Rattle.tool_files.proofs.file.move_to_front.Statement.{statement}
 use Rattle.tool_files.proofs.file.move_to_front.Tie as tie
 use Rattle.tool_files.proofs.file.move_to_front.Reads as reads

@@ -5,40 +5,31 @@ use Rattle.trace_books.proofs.changeover.follow.Statement.{statement}
 use Rattle.trace_books.proofs.changeover.follow.Tie as tie
 
 abbrev Inv-loop : tie.InvT-loop
-Inv-loop links states₀ failures₀ call gone₀ link₀ states failures gone link = link ≤ 32
+Inv-loop links known₀ failures₀ call gone₀ link₀ known failures gone link = link ≤ 32
 
 abbrev μ-loop : tie.MeasureT-loop
-μ-loop links states₀ failures₀ call gone₀ link₀ states failures gone link = 32 - link
-
-loop-holds : tie.Need-loop-holds Inv-loop μ-loop
-loop-holds c = search needs
+μ-loop links known₀ failures₀ call gone₀ link₀ known failures gone link = 32 - link
 
 load-link-requires : tie.Need-load-link-requires Inv-loop μ-loop
 load-link-requires c κs = search needs
 
-cast-before : tie.Need-cast-before Inv-loop μ-loop
-cast-before c = search needs
+loop-holds : tie.Need-loop-holds Inv-loop μ-loop
+loop-holds c = search needs
 
-element-copy-out-before : tie.Need-element-copy-out-before Inv-loop μ-loop
-element-copy-out-before c = search needs
+load-link-requires-2 : tie.Need-load-link-requires-2 Inv-loop μ-loop
+load-link-requires-2 c κs = search needs
 
-cast-t17 : tie.Need-cast-t17 Inv-loop μ-loop
-cast-t17 c = search needs
+load-link-requires-3 : tie.Need-load-link-requires-3 Inv-loop μ-loop
+load-link-requires-3 c κs = search needs
 
-mul-t18 : tie.Need-mul-t18 Inv-loop μ-loop
-mul-t18 c = search needs
+cast-failed : tie.Need-cast-failed Inv-loop μ-loop
+cast-failed c = search needs
 
-element-copy-out-t21 : tie.Need-element-copy-out-t21 Inv-loop μ-loop
-element-copy-out-t21 c = search needs
+mul-failed : tie.Need-mul-failed Inv-loop μ-loop
+mul-failed c = search needs
 
-cast-failure : tie.Need-cast-failure Inv-loop μ-loop
-cast-failure c = search needs
-
-mul-failure : tie.Need-mul-failure Inv-loop μ-loop
-mul-failure c = search needs
-
-element-copy-out-failure : tie.Need-element-copy-out-failure Inv-loop μ-loop
-element-copy-out-failure c = search needs
+element-copy-out-failed : tie.Need-element-copy-out-failed Inv-loop μ-loop
+element-copy-out-failed c = search needs
 
 failure-requires : tie.Need-failure-requires Inv-loop μ-loop
 failure-requires c κs = search needs
@@ -52,11 +43,8 @@ mul-failures c = search needs
 element-write-failures : tie.Need-element-write-failures Inv-loop μ-loop
 element-write-failures c = search needs
 
-cast-states : tie.Need-cast-states Inv-loop μ-loop
-cast-states c = search needs
-
-element-write-states : tie.Need-element-write-states Inv-loop μ-loop
-element-write-states c = search needs
+store-link-requires : tie.Need-store-link-requires Inv-loop μ-loop
+store-link-requires c κs = search needs
 
 add-link : tie.Need-add-link Inv-loop μ-loop
 add-link c = search needs
@@ -76,22 +64,18 @@ follow-spec =
     (tie.spec
     Inv-loop
     μ-loop
-    loop-holds
     load-link-requires
-    cast-before
-    element-copy-out-before
-    cast-t17
-    mul-t18
-    element-copy-out-t21
-    cast-failure
-    mul-failure
-    element-copy-out-failure
+    loop-holds
+    load-link-requires-2
+    load-link-requires-3
+    cast-failed
+    mul-failed
+    element-copy-out-failed
     failure-requires
     cast-failures
     mul-failures
     element-write-failures
-    cast-states
-    element-write-states
+    store-link-requires
     add-link
     loop-less
     loop-again
