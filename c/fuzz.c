@@ -171,7 +171,7 @@ static void see_reports(size_t count, size_t words) {
     if (!scrambled && count > 256 + TRANSFER_POINT_DESTINATIONS)
         wrong("more reports than there can be");
     for (size_t i = 0; i < count; i++) {
-        if (reports[2 * i] < TRANSFER_POINT_DROPPED_NO_ROUTE || reports[2 * i] > TRANSFER_POINT_RESUME)
+        if (reports[2 * i] < TRANSFER_POINT_DROPPED_NO_ROUTE || reports[2 * i] == 3 || reports[2 * i] > TRANSFER_POINT_RESUME)
             wrong("a report that isn't listed");
         if (i > 0 && reports[2 * i] < TRANSFER_POINT_PAUSE && reports[2 * i - 2] >= TRANSFER_POINT_PAUSE)
             wrong("a drop reported behind a pause");

@@ -55,8 +55,8 @@ enum transfer_point_reply {
 
 enum transfer_point_report {
     TRANSFER_POINT_DROPPED_NO_ROUTE = 1,      /* a held message was dropped: its arrival number */
-    TRANSFER_POINT_DROPPED_NO_NUMBER = 2,     /* it was sent, and no number told whether it arrived */
-    TRANSFER_POINT_DROPPED_OUT_OF_RANGE = 3,  /* it was sent, and the number told was not in range */
+    TRANSFER_POINT_DROPPED_NO_NUMBER = 2,     /* it was sent, and an ECO or ECA ended the changeover: nothing told whether it arrived */
+    /* 3 is given no more, and not used again: after T1, T2 or a number not in range the whole queue is sent again */
     TRANSFER_POINT_PAUSE = 4,                 /* a destination can't be reached any more: its code */
     TRANSFER_POINT_RESUME = 5,                /* it can be reached again */
 };

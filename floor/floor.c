@@ -1,4 +1,4 @@
-// The least that a transfer point must do with the messages of `bench`: read the label, look the link up, copy the message into a
+// The least that a transfer point must do with the messages of `library`: read the label, look the link up, copy the message into a
 // slot, queue it, take it off, copy it out, free the slot. It knows no states, no numbers and no management. And the walk round a set, which
 // `choosing` is timed beside.
 #include <stdint.h>

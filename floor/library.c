@@ -1,5 +1,5 @@
-// The jobs of `bench` over the library for C, as a host does them: the calls of transfer_point.h on one node, with a configuration on
-// standard input. What it writes is what `bench` and the floor write.
+// Moves messages through a node and counts them, to be timed from outside, as a host does it: the calls of transfer_point.h on one node, with a
+// configuration on standard input. What it writes is what the floor writes.
 #include "transfer_point.h"
 
 #include <stdio.h>

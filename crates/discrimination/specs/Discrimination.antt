@@ -1,6 +1,6 @@
 -- Discrimination: what a message is to this node. Rows 3 and 4 of the paper's table, in this order.
 use Prim.Native.Nat.{ℕ}
-use mathlib.Core.Bool.{Bool, cond, not, _||_}
+use mathlib.Core.Bool.{cond, not, _||_}
 use mathlib.Core.List.{List}
 use lib.Dec.{eqb}
 use Rattle.plan.specs.declared.data.Plan.{Plan}

@@ -1,7 +1,7 @@
 -- What the words say, piece by piece: whoever reads them cites these, and never unfolds the plan. Assumes nothing.
 use mathlib.Core.Path.{_≡_, refl, sym, ap, _∙_}
 use mathlib.Core.List.{List, [], _∷_}
-use Prim.Native.Nat.{ℕ, zero, suc, _+_, _*_, _%_, _<_, _≤_, min}
+use Prim.Native.Nat.{ℕ, zero, suc, _+_, _*_, _<_, _≤_, min}
 use native.Mathlib.Nat.{add-zero}
 use native.Mathlib.Omega.{arith}
 use borrow.Author.Tests.{lt-ltb}
@@ -9,7 +9,6 @@ use lib.ListN.{length, getD, length-take, List·getD-eq-default}
 use Rattle.plan.specs.declared.data.Plan.{Plan}
 use Rattle.plan.specs.declared.data.LinkSet.{LinkSet}
 use Rattle.plan.specs.declared.data.Destination.{Destination}
-use Rattle.plan.specs.declared.data.Route.{Route}
 use Rattle.plan.specs.Data.{absentSet, absentLink, absentDestination, setAt, linkAt, linksOf, destinationAt, routesOf}
 use Rattle.plan.proofs.Split.{split}
 use Rattle.plan_words.specs.Words.{wordIn, octetIn, flagIn, routeIn, setIn, linkIn, destinationIn, table, planAt, routesAt}

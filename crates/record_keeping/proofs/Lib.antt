@@ -1,4 +1,3 @@
 pub mod Fields
 pub mod ReadsBack
 pub mod Room
-pub mod KeptBack

@@ -1,2 +1,1 @@
 pub mod Recorder
-pub mod Kept

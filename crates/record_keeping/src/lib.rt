@@ -1,6 +1,4 @@
 // The line of a record for a call or a question, so that a host can keep its shift: what `record` reads, written.
-pub mod keep;
-
 use node::ask::Question;
 use node::call::Event;
 use text::put::put;

@@ -5,7 +5,7 @@ use mathlib.Core.List.{List, [], _∷_, _++_}
 use Prim.Native.Nat.{ℕ, zero, suc, _+_, _*_, _-_, _≤_, min}
 use native.Mathlib.Omega.{arith}
 use lib.Dec.{eqb}
-use lib.ListN.{length, length-append}
+use lib.ListN.{length}
 use borrow.Table.Steps.{cases}
 use Rattle.text_decimals.specs.Decimal.{decimalOf}
 use Rattle.text_pages.specs.Page.{joined, ended, parted}
@@ -17,7 +17,7 @@ use Rattle.fate_lines.specs.Lines.{queuedWord, sentWord, acknowledgedWord, reti
 use Rattle.replay_fates.specs.declared.deciding.Part.{Part}
 use Rattle.replay_fates.specs.declared.deciding.Part.the-variants.{Arriving, Moving}
 use Rattle.replay_fates.specs.declared.deciding.Told.{Told}
-use Rattle.replay_fates.specs.Fates.{fateAt, fatesAt, fatesFrom, fatesIn, sentFate, leaving, fatesOf}
+use Rattle.replay_fates.specs.Fates.{fateAt, fatesAt, fatesFrom, fatesIn, sentFate, leavingPart, fatesOf}
 use Rattle.replay_fates.proofs.Walking.{lines-append, four-parts}
 use Rattle.node.specs.declared.call.Event.{Event}
 use Rattle.node.specs.View as Node
@@ -26,8 +26,8 @@ use Rattle.node.specs.Memory.{Memory}
 use Rattle.node.specs.Call.{callOf}
 use Rattle.queue_joining.specs.Queue.{nextOf}
 use Rattle.replay_answers.specs.Answers.{showsOf, toldOf, listLines}
-use Rattle.replay_shift.specs.declared.run.View.{View}
-use Rattle.replay_shift.specs.Shift.{heldIn, callFates, calledLines}
+use Rattle.replay_answers.specs.declared.view.View.{View}
+use Rattle.replay_calls.specs.Called.{heldIn, callFates, calledLines}
 use Rattle.replay_shift.proofs.Room.{both-long, decimal-long, piece-long, shown-long}
 
 three : (test : Bool) (one other : List ℕ) → length one ≤ 3 → length other ≤ 3 → length (cond test one other) ≤ 3
@@ -129,7 +129,7 @@ unfolding fatesOf
 fates-long number told links before after reports =
     let new = fatesIn (Arriving (told .next)) after after reports (told .reports) in
     let sent = sentFate told links after in
-    let left = fatesIn (leaving told) before after reports (told .reports) in
+    let left = fatesIn (leavingPart told) before after reports (told .reports) in
     let moved = fatesIn Moving before after reports (told .reports) in
     omega (
       arith,
@@ -139,7 +139,7 @@ fates-long number told links before after reports =
       both-long (fateLines number left) (fateLines number moved),
       part-long number (Arriving (told .next)) after after reports (told .reports),
       fate-long number sent,
-      part-long number (leaving told) before after reports (told .reports),
+      part-long number (leavingPart told) before after reports (told .reports),
       part-long number Moving before after reports (told .reports),
     )
 

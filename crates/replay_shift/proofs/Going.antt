@@ -1,11 +1,11 @@
 -- The loop over the lines: what is left to run leads where the whole run leads, and the page holds the text. Assumes nothing.
 use mathlib.Core.Path.{_≡_, refl, sym, ap, ap₂, _∙_}
-use mathlib.Core.Bool.{Bool, true, false, cond, _&&_, false≢true}
-use mathlib.Core.List.{List, [], _∷_, _++_, append-nil}
+use mathlib.Core.Bool.{Bool, true, false, _&&_, false≢true}
+use mathlib.Core.List.{List, [], _++_, append-nil}
 use Prim.Native.Nat.{ℕ, _+_, _-_, _≤_, _<_}
 use native.Mathlib.Omega.{arith}
 use lib.Dec.{leb, eqb}
-use lib.ListN.{length, take, drop, take-append-drop, length-append, length-take, length-drop}
+use lib.ListN.{length, take, drop, take-append-drop, length-append, length-take}
 use lib.Seq.{slice, drop-drop, length-take-le, take-all, drop-length}
 use borrow.Author.Tests.{lt-leb, leb-true, leb-false, eqb-true}
 use borrow.Table.Steps.{cases}
@@ -17,7 +17,7 @@ use Rattle.record_reading.specs.Record.{readLine, messageAfter}
 use Rattle.text.specs.declared.part.Part.{Part}
 use Rattle.text.specs.Part.{lineAt}
 use Rattle.replay_shift.specs.declared.run.Place.{Place}
-use Rattle.replay_shift.specs.declared.run.View.{View}
+use Rattle.replay_answers.specs.declared.view.View.{View}
 use Rattle.replay_shift.specs.Shift.{Desk, deskAt, placeAt, pageWith, ranLines, ranLine, runBy, goesOn, linesFrom}
 use Rattle.replay_shift.proofs.Lines.{goes, stops-open, stops-desk}
 

@@ -1,9 +1,7 @@
-pub mod Shown
 pub mod Room
 pub mod FatesRoom
 pub mod OnPage
 pub mod Lines
-pub mod Called
 pub mod Running
 pub mod Going
 pub mod Whole

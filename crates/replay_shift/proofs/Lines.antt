@@ -12,9 +12,9 @@ use borrow.Table.Steps.{cases}
 use Rattle.plan.specs.declared.data.Plan.{Plan}
 use Rattle.bytes.specs.Bytes.{indexOf}
 use Rattle.text.specs.declared.part.Part.{Part}
-use Rattle.text.specs.Part.{lineAt, split, lf}
+use Rattle.text.specs.Part.{lineAt, lf}
 use Rattle.text.proofs.Parts.{first-part, cut-length, next-onward, next-within}
-use Rattle.replay_shift.specs.declared.run.View.{View}
+use Rattle.replay_answers.specs.declared.view.View.{View}
 use Rattle.replay_shift.specs.Shift.{Desk, ranLines, ranLine, goesOn, linesFrom}
 
 module _ (text : List ℕ) (at : ℕ) (part : Part) (here : part ≡ lineAt text at) where

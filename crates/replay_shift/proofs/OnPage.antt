@@ -1,12 +1,11 @@
 -- Pieces that have room on a page stand behind the text there, and what stood behind them stays. Assumes nothing.
-use mathlib.Core.Path.{_≡_, refl, sym, ap, ap₂, _∙_}
-use mathlib.Core.List.{List, [], _∷_, _++_, append-assoc}
-use Prim.Native.Nat.{ℕ, _+_, _-_, _≤_}
+use mathlib.Core.Path.{_≡_, sym, ap, _∙_}
+use mathlib.Core.List.{List, _++_, append-assoc}
+use Prim.Native.Nat.{ℕ, _+_, _≤_}
 use native.Mathlib.Omega.{arith}
-use lib.ListN.{length, take, drop, take-append-drop, length-append, length-take, length-drop}
-use lib.Seq.{take-at, drop-at, drop-drop}
+use lib.ListN.{length, take, drop, length-append, length-take}
+use lib.Seq.{take-at, drop-at}
 use borrow.Author.Tests.{le-leb}
-use Rattle.text.specs.Put.{written}
 use Rattle.text_pages.specs.Page.{Page, page, puts, joined}
 use Rattle.text_pages.proofs.Pages.{puts-joined}
 

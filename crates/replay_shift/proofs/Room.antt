@@ -1,12 +1,12 @@
 -- What is shown of an answer has room behind 65,536 octets of a page: a decimal has at most twenty digits, a report area 512 records, an output 4,096
 -- octets and so at most as many lines. Assumes nothing.
-use mathlib.Core.Path.{_≡_, refl, sym, ap, _∙_}
-use mathlib.Core.Bool.{Bool, true, false, cond, _&&_}
+use mathlib.Core.Path.{_≡_, refl}
+use mathlib.Core.Bool.{_&&_}
 use mathlib.Core.List.{List, [], _∷_, _++_}
 use Prim.Native.Nat.{ℕ, zero, suc, _+_, _*_, _/_, _%_, _≤_, min}
 use native.Mathlib.Omega.{arith}
 use lib.Dec.{eqb, ltb, leb}
-use lib.ListN.{length, getD, take, drop, length-append, length-take, length-drop}
+use lib.ListN.{length, getD, length-append, length-take, length-drop}
 use lib.Seq.{slice}
 use borrow.Table.Steps.{cases}
 use Rattle.text.specs.Part.{split, onFirst, lf}
@@ -23,8 +23,8 @@ use Rattle.replay_refusals.specs.Refused.{unreadable}
 use Rattle.replay_showing.specs.Reply.{replied, replyWord, behind}
 use Rattle.replay_routes.specs.Routed.{routed, routeWord}
 use Rattle.replay_answers.specs.Answers.{answered, listLines}
-use Rattle.replay_shift.specs.declared.run.View.{View}
-use Rattle.replay_shift.specs.Shift.{shown}
+use Rattle.replay_answers.specs.declared.view.View.{View}
+use Rattle.replay_answers.specs.Shown.{shown}
 
 -- pieces behind pieces are as long as both
 pub both-long : (one other : List (List ℕ)) → length (joined (one ++ other)) ≡ length (joined one) + length (joined other)

@@ -1,7 +1,7 @@
 -- One line run: what was read, called or asked, and put on the page is what the definition says. Assumes nothing.
-use mathlib.Core.Path.{_≡_, refl, sym, ap, ap₂, subst, _∙_}
-use mathlib.Core.Bool.{Bool, true, false}
-use mathlib.Core.List.{List, [], _∷_, _++_}
+use mathlib.Core.Path.{_≡_, sym, ap, _∙_}
+use mathlib.Core.Bool.{true, false}
+use mathlib.Core.List.{List, [], _++_}
 use Prim.Native.Nat.{ℕ, _+_, _≤_}
 use native.Mathlib.Omega.{arith}
 use lib.ListN.{length, take, drop}
@@ -17,12 +17,13 @@ use Rattle.record_reading.specs.declared.Reading.the-variants.{Call, Asks, Unre
 use Rattle.record_reading.specs.Record.{readLine, messageAfter}
 use Rattle.text_pages.specs.Page.{page, puts, joined}
 use Rattle.replay_refusals.specs.Refused.{unreadable}
-use Rattle.replay_showing.specs.declared.shows.Shows.{Shows}
 use Rattle.replay_answers.specs.Answers.{showsFor}
 use Rattle.replay_shift.specs.declared.run.Place.{Place}
-use Rattle.replay_shift.specs.declared.run.View.{View}
-use Rattle.replay_shift.specs.Shift.{Desk, desk, deskAt, shown, calledLines, onward, ranLine, runBy}
-use Rattle.replay_shift.proofs.OnPage.{StandsOnPage, stands}
+use Rattle.replay_answers.specs.declared.view.View.{View}
+use Rattle.replay_answers.specs.Shown.{shown}
+use Rattle.replay_calls.specs.Called.{calledLines}
+use Rattle.replay_shift.specs.Shift.{Desk, desk, deskAt, onward, ranLine, runBy}
+use Rattle.replay_shift.proofs.OnPage.{stands}
 use Rattle.replay_shift.proofs.Room.{asked-long, unreadable-long}
 use Rattle.replay_shift.proofs.FatesRoom.{called-long}
 

@@ -1,11 +1,10 @@
 -- A record read piece by piece is answered as a whole: what a turn over a piece writes, and then what is left, is what was left before it.
 -- And a line that can't be read stops the run there. Assumes nothing.
-use mathlib.Core.Path.{_≡_, refl, sym, ap, ap₂, subst, _∙_}
-use mathlib.Core.Bool.{Bool, true, false, cond, _&&_, false≢true}
-use mathlib.Core.List.{List, [], _∷_, _++_, append-assoc, append-nil}
+use mathlib.Core.Path.{_≡_, refl, sym, ap, subst, _∙_}
+use mathlib.Core.Bool.{Bool, true, false, cond, false≢true}
+use mathlib.Core.List.{List, [], _∷_, _++_, append-assoc}
 use Prim.Native.Nat.{ℕ, _+_}
-use native.Mathlib.Omega.{arith}
-use lib.Dec.{eqb, leb}
+use lib.Dec.{eqb}
 use lib.ListN.{length}
 use lib.Seq.{slice, take-length}
 use borrow.Table.Steps.{cases}
@@ -20,7 +19,7 @@ use Rattle.text.proofs.Parts.{split-last}
 use Rattle.text_pages.specs.Page.{joined}
 use Rattle.plan_configuration.specs.Configure.{configured}
 use Rattle.replay_refusals.specs.Refused.{unreadable, refusedBy}
-use Rattle.replay_shift.specs.declared.run.View.{View}
+use Rattle.replay_answers.specs.declared.view.View.{View}
 use Rattle.replay_shift.specs.Shift.{Desk, desk, ranLines, ranLine, runBy, refused, goesOn, linesFrom, answersOf, toWrite, firstDesk, replayOf}
 use Rattle.replay_shift.proofs.Lines.{lines-are, past-line}
 use Rattle.replay_shift.proofs.Going.{first-of, by-next}

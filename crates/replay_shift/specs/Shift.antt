@@ -1,73 +1,31 @@
 -- A shift run again: "The reports must be those of the same calls made one at a time, and a line that can't be read stops the replay
 -- there, with the state of the lines before it." (R226, R227)
 use Prim.Native.Nat.{ℕ, _+_, _-_, _%_, _^_}
-use mathlib.Core.Bool.{Bool, true, false, cond, not, _&&_}
+use mathlib.Core.Bool.{Bool, true, false, cond, _&&_}
 use mathlib.Core.List.{List, [], _∷_, _++_}
 use lib.ListN.{length, take, drop, replicate}
 use lib.Seq.{slice}
 use lib.Dec.{eqb, leb}
 use Rattle.plan.specs.declared.data.Plan.{Plan}
 use Rattle.plan_configuration.specs.Configure.{configured}
-use Rattle.replies.specs.declared.Answer.{Answer}
 use Rattle.node.specs.declared.ask.Question.{Question}
 use Rattle.replies.specs.Areas.{Lent, areas}
 use Rattle.start.specs.Start.{freshLinks, freshMarks, freshSpans, freshRings, freshArrivals}
-use Rattle.node.specs.declared.call.Event.{Event}
-use Rattle.node.specs.Memory.{Memory, memory, Result}
+use Rattle.node.specs.Memory.{Memory, memory}
 use Rattle.node.specs.Call.{callOf}
 use Rattle.node.specs.Ask.{askOf}
-use Rattle.node.specs.View.{viewOf}
 use Rattle.text.specs.Part.{split, isEmpty, lf}
 use Rattle.record_reading.specs.declared.Line.{Line}
 use Rattle.record_reading.specs.declared.Reading.{Reading}
 use Rattle.record_reading.specs.declared.Reading.the-variants.{Call, Asks, Unreadable}
 use Rattle.record_reading.specs.Record.{readLine, messageAfter}
 use Rattle.text_pages.specs.Page.{joined}
-use Rattle.replay_reports.specs.Reported.{allReported}
 use Rattle.replay_refusals.specs.Refused.{unreadable, refusedBy}
-use Rattle.replay_showing.specs.declared.shows.Shows.{Shows}
-use Rattle.queue_joining.specs.Queue.{nextOf}
-use Rattle.fate_places.specs.Places.{Held, held}
-use Rattle.fate_lines.specs.Lines.{fateLines}
-use Rattle.replay_fates.specs.Fates.{fatesOf}
-use Rattle.replay_answers.specs.Answers.{answered, showsOf, showsFor, toldOf}
+use Rattle.replay_answers.specs.Answers.{showsFor}
 use Rattle.replay_shift.specs.declared.run.Place.{Place}
-use Rattle.replay_shift.specs.declared.run.View.{View}
-
--- what is shown of an answer: its lines, or its reports alone; nothing where its line is outside those that are asked for
-abbrev pub shown : View → ℕ → Shows → Answer → List ℕ → List ℕ → List (List ℕ) → List ℕ → List (List ℕ)
-shown view number shows answer message out fates reports =
-    cond (leb (view .first) number && leb number (view .last))
-    (cond (view .only) (allReported number reports (answer .reports)) (answered number shows answer message out fates reports))
-    []
-
--- the queues of a node
-abbrev pub heldIn : Memory → Held
-heldIn m = held (m .areas .spans) (m .areas .rings) (m .areas .rows)
-
--- what became of messages by a call: by the memory before it, and its result
-abbrev pub callFates : ℕ → Event → Memory → Result → List (List ℕ)
-callFates number event m made =
-    fateLines number
-    (fatesOf (toldOf (viewOf event) (made .answer) (nextOf (m .areas .arrivals))) (made .after .areas .links) (heldIn m) (heldIn (made .after))
-    (made .after .areas .reports))
-
--- all that is written of a call where its fates are shown
-abbrev pub fatedLines : Plan → ℕ → Event → List ℕ → Memory → List (List ℕ)
-fatedLines plan number event message m =
-    let made = callOf plan event message m in
-    answered number (showsOf (viewOf event)) (made .answer) message (made .after .out) (callFates number event m made) (made .after .areas .reports)
-
--- whether fates are shown of a line
-abbrev pub tells : View → ℕ → Bool
-tells view number = (leb (view .first) number && leb number (view .last)) && (not (view .only) && view .fates)
-
--- what is shown of a call; "with `--fates`" (docs/FORMATS.md) its fates too
-abbrev pub calledLines : Plan → View → ℕ → Event → List ℕ → Memory → List (List ℕ)
-calledLines plan view number event message m =
-    let made = callOf plan event message m in
-    shown view number (showsOf (viewOf event)) (made .answer) message (made .after .out)
-    (cond (view .fates) (callFates number event m made) []) (made .after .areas .reports)
+use Rattle.replay_answers.specs.declared.view.View.{View}
+use Rattle.replay_answers.specs.Shown.{shown}
+use Rattle.replay_calls.specs.Called.{calledLines}
 
 -- "counted from 1" (docs/FORMATS.md): the number of the line after, of 64 bits
 abbrev pub onward : ℕ → ℕ

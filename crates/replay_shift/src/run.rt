@@ -1,19 +1,10 @@
 // The lines of a record, in order: each is read, called or asked, and answered.
-use node::ask::Question;
-use node::ask::ask;
-use node::call::Event;
-use node::call::call;
 use record_reading::Reading;
 use record_reading::read_line;
-use replay_answers::answer::put_answer;
-use replay_answers::answer::put_told;
-use replay_answers::answer::shown;
-use replay_answers::answer::shown_for;
-use replay_answers::answer::told;
+pub use replay_answers::view::View;
+use replay_calls::put_asked;
+use replay_calls::put_called;
 use replay_refusals::put_unreadable;
-use replay_reports::put_reports;
-use replay_showing::shows::Shows;
-use replies::Answer;
 use std::num::wrapping_add_u64;
 use text::part::Part;
 use text::part::between;
@@ -21,17 +12,11 @@ use text::part::line;
 ghost use Rattle.plan_words.specs.Words.{planOf};
 ghost use mathlib.Core.Path.{_≡_};
 ghost use mathlib.Core.Bool.{_&&_};
-ghost use mathlib.Core.List.{[]};
 ghost use Prim.Native.Nat.{_≤_};
 ghost use lib.Dec.{eqb, leb};
 ghost use lib.ListN.{length, drop};
 ghost use lib.Seq.{slice};
 ghost use Rattle.node.specs.Memory.{memoryBefore, memoryAfter};
-ghost use Rattle.node.specs.Call.{callOf};
-ghost use Rattle.node.specs.Ask.{answerTo, writtenFor};
-ghost use Rattle.replay_answers.specs.Answers.{showsFor};
-ghost use Rattle.text_pages.specs.Page.{page, puts};
-ghost use Rattle.replay_shift.specs.Shift as Shift;
 ghost use Rattle.replay_shift.specs.Shift.{ranFrom, ranLine, deskAt, placeAt, pageWith};
 
 // Where a run stands: the next line's place in the text and its number, how much of the page isn't written out yet, and whether every
@@ -41,14 +26,6 @@ pub struct Place {
     pub number: u64,
     pub pending: usize,
     pub readable: bool,
-}
-
-// Which answers are shown: those of the lines from one to another, whole or their reports alone, and whether with their fates.
-pub struct View {
-    pub first: u64,
-    pub last: u64,
-    pub only: bool,
-    pub fates: bool,
 }
 
 // The lines that end in a text, from a place on, until one can't be read or the page has its fill: it holds 65,536 octets and
@@ -213,207 +190,4 @@ fn run_line(
             readable: false,
         },
     }
-}
-
-// A call, and what is shown of its answer, on the page.
-fn put_called(
-    plan: &[u16; 1024],
-    links: &mut [u32; 256],
-    marks: &mut [u32; 512],
-    spans: &mut [u16; 70],
-    rings: &mut [u8; 8960],
-    rows: &mut [u64; 2048],
-    octets: &mut [u8; 52416],
-    arrivals: &mut [u64; 1],
-    event: Event,
-    message: &[u8],
-    view: View,
-    number: u64,
-    sent: &mut [u8],
-    reports: &mut [u64],
-    out: &mut [u8],
-    at: usize,
-) -> usize
-    ensures { λ r. ⌜ page (now (out .exit)) r ≡
-        puts (page (now (out .entry)) at)
-        (Shift.calledLines (planOf plan) view number event (now (message .entry)) (memoryBefore links marks spans rings rows arrivals reports octets sent)) ⌝ }
-    ensures { λ r. ⌜ memoryAfter links marks spans rings rows arrivals reports octets sent ≡
-        (callOf (planOf plan) event (now (message .entry)) (memoryBefore links marks spans rings rows arrivals reports octets sent)) .after ⌝ }
-{
-    if tells(view, number) {
-        return put_fated(
-            plan,
-            links,
-            marks,
-            spans,
-            rings,
-            rows,
-            octets,
-            arrivals,
-            event,
-            message,
-            number,
-            sent,
-            reports,
-            out,
-            at,
-        );
-    }
-    let answer = call(
-        plan,
-        links,
-        marks,
-        spans,
-        rings,
-        rows,
-        octets,
-        arrivals,
-        event,
-        message,
-        sent,
-        reports,
-    );
-    put_shown(
-        out,
-        at,
-        number,
-        view,
-        shown(event),
-        answer,
-        message,
-        sent,
-        reports,
-    )
-}
-
-// A call and all that is written of it, on the page, with its fates: for them its queues are kept as they were before it.
-fn put_fated(
-    plan: &[u16; 1024],
-    links: &mut [u32; 256],
-    marks: &mut [u32; 512],
-    spans: &mut [u16; 70],
-    rings: &mut [u8; 8960],
-    rows: &mut [u64; 2048],
-    octets: &mut [u8; 52416],
-    arrivals: &mut [u64; 1],
-    event: Event,
-    message: &[u8],
-    number: u64,
-    sent: &mut [u8],
-    reports: &mut [u64],
-    out: &mut [u8],
-    at: usize,
-) -> usize
-    ensures { λ r. ⌜ page (now (out .exit)) r ≡
-        puts (page (now (out .entry)) at)
-        (Shift.fatedLines (planOf plan) number event (now (message .entry)) (memoryBefore links marks spans rings rows arrivals reports octets sent)) ⌝ }
-    ensures { λ r. ⌜ memoryAfter links marks spans rings rows arrivals reports octets sent ≡
-        (callOf (planOf plan) event (now (message .entry)) (memoryBefore links marks spans rings rows arrivals reports octets sent)) .after ⌝ }
-{
-    let oldspans = *spans;
-    let oldrings = *rings;
-    let oldrows = *rows;
-    let next = arrivals[0];
-    let answer = call(
-        plan,
-        links,
-        marks,
-        spans,
-        rings,
-        rows,
-        octets,
-        arrivals,
-        event,
-        message,
-        sent,
-        reports,
-    );
-    let told = told(event, answer, next);
-    put_told(
-        out,
-        at,
-        number,
-        shown(event),
-        answer,
-        message,
-        sent,
-        reports,
-        told,
-        links,
-        &oldspans,
-        &oldrings,
-        &oldrows,
-        spans,
-        rings,
-        rows,
-    )
-}
-
-// Whether fates are shown of a line.
-fn tells(view: View, number: u64) -> bool
-    ensures { λ r. ⌜ r ≡ Shift.tells view number ⌝ }
-{
-    if number < view.first {
-        return false;
-    }
-    let last = view.last;
-    if last < number {
-        return false;
-    }
-    if view.only {
-        return false;
-    }
-    view.fates
-}
-
-// A question, and what is shown of its answer, on the page; the node is read and not changed.
-fn put_asked(
-    plan: &[u16; 1024],
-    links: &[u32; 256],
-    marks: &[u32; 512],
-    question: Question,
-    view: View,
-    number: u64,
-    sent: &mut [u8],
-    reports: &[u64],
-    out: &mut [u8],
-    at: usize,
-) -> usize
-    ensures { λ r. ⌜ page (now (out .exit)) r ≡
-        puts (page (now (out .entry)) at)
-        (Shift.shown view number (showsFor question)
-        (answerTo (planOf plan) (now (links .entry)) (now (marks .entry)) (now (sent .entry)) question) []
-        (writtenFor (planOf plan) (now (links .entry)) (now (marks .entry)) (now (sent .entry)) question) [] (now (reports .entry))) ⌝ }
-    ensures { λ r. ⌜ now (sent .exit) ≡ writtenFor (planOf plan) (now (links .entry)) (now (marks .entry)) (now (sent .entry)) question ⌝ }
-{
-    let answer = ask(plan, links, marks, question, sent);
-    let shows = shown_for(question);
-    put_shown(out, at, number, view, shows, answer, b"", sent, reports)
-}
-
-// What is shown of an answer, on the page.
-fn put_shown(
-    out: &mut [u8],
-    at: usize,
-    number: u64,
-    view: View,
-    shows: Shows,
-    answer: Answer,
-    message: &[u8],
-    sent: &[u8],
-    reports: &[u64],
-) -> usize
-    ensures { λ r. ⌜ page (now (out .exit)) r ≡
-        puts (page (now (out .entry)) at) (Shift.shown view number shows answer (now (message .entry)) (now (sent .entry)) [] (now (reports .entry))) ⌝ }
-{
-    if number < view.first {
-        return at;
-    }
-    if view.last < number {
-        return at;
-    }
-    if view.only {
-        return put_reports(out, at, number, reports, answer.reports);
-    }
-    put_answer(out, at, number, shows, answer, message, sent, reports)
 }

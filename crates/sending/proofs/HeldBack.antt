@@ -2,7 +2,7 @@
 -- Assumes nothing.
 use mathlib.Core.Path.{_≡_, refl, ap, _∙_}
 use mathlib.Core.List.{List, _∷_, _++_}
-use Prim.Native.Nat.{ℕ, _+_, _-_, _*_, _/_, _%_, _<_}
+use Prim.Native.Nat.{ℕ, _+_, _*_, _/_, _%_, _<_}
 use native.Mathlib.Omega.{arith}
 use lib.ListN.{length}
 use Rattle.plan.specs.declared.data.Plan.{Plan}
@@ -16,7 +16,7 @@ use Rattle.wire_messages.specs.declared.management.Message.{Message}
 use Rattle.wire_messages.specs.declared.management.Message.the-variants.{COO, COA, CBD, CBA, ECO, ECA, TFP, TFA, RST}
 use Rattle.wire_messages.specs.declared.management.MessageRead.{MessageRead}
 use Rattle.wire_messages.specs.declared.management.MessageRead.the-variants.{Read}
-use Rattle.wire_messages.specs.Management.{headingOf, totalOf, fieldOf}
+use Rattle.wire_messages.specs.Management.{headingOf, fieldOf}
 use Rattle.wire_writing.specs.Writing.{partOf, octetsOf, FieldInRange}
 use Rattle.sending.specs.Send.{heldMessage, heldLabel}
 

@@ -1,20 +1,15 @@
--- The rows in which a trace keeps what it knows of held messages: 32 words for each of 256, and the order in which they are held.
+-- The rows in which a trace keeps what it knows of held messages: 32 words for each of 256.
 use Prim.Native.Nat.{ℕ, _+_, _*_, _/_, _%_}
 use mathlib.Core.Bool.{Bool, cond}
 use mathlib.Core.List.{List, [], _∷_}
 use lib.Dec.{ltb}
-use lib.ListN.{getD}
 use Rattle.area_rows.specs.Rows.{wordAt, withRow, withWord}
-use Rattle.trace_rows.specs.declared.held.Message.{Message}
+use Rattle.trace_circuits.specs.declared.message.Message.{Message}
 use Rattle.trace_rows.specs.declared.held.Move.{Move}
 
--- the row at a place of the order; past its end the first
-abbrev pub rowAt : List ℕ → ℕ → ℕ
-rowAt order place = cond (ltb place 256) (getD order place 0) 0
-
 -- whether a word says yes
-abbrev pub flagAt : List ℕ → ℕ → ℕ → Bool
-flagAt rows row place = ltb 0 (wordAt 256 32 rows row place)
+abbrev pub flagOf : List ℕ → ℕ → ℕ → Bool
+flagOf rows row place = ltb 0 (wordAt 256 32 rows row place)
 
 -- what a row says of its message
 abbrev pub messageAt : List ℕ → ℕ → Message
@@ -30,11 +25,12 @@ messageAt rows row =
       length = wordAt 256 32 rows row 7;
       octets = wordAt 256 32 rows row 8;
       place = wordAt 256 32 rows row 9;
-      sent = flagAt rows row 10;
+      sent = flagOf rows row 10;
       fsn = wordAt 256 32 rows row 11;
       left = wordAt 256 32 rows row 12;
-      stood = flagAt rows row 13;
+      stood = flagOf rows row 13;
       moves = wordAt 256 32 rows row 14;
+      twice = flagOf rows row 15;
     }
 
 -- the word of yes or no
@@ -60,22 +56,29 @@ withMessage rows row message =
     message .left ∷
     wordOf (message .stood) ∷
     message .moves ∷
+    wordOf (message .twice) ∷
     [])
 
 -- where a move of a number stands behind the first sixteen words of a row: the last eight are kept, two words each
 abbrev pub movePlace : ℕ → ℕ
 movePlace number = 2 * (number % 8)
 
--- a move: the links that it went from and to in one word, the first the higher part, and in the next the line of the record
+-- a move: in one word the number that the message left with if it is sent again, and the links that it went from and to, the first the highest part; in the
+-- next the line of the record
 abbrev pub moveAt : List ℕ → ℕ → ℕ → Move
 moveAt rows row number =
     record {
-      from = wordAt 256 32 rows row (movePlace number + 16) / 64;
+      from = wordAt 256 32 rows row (movePlace number + 16) / 64 % 64;
       to = wordAt 256 32 rows row (movePlace number + 16) % 64;
       line = wordAt 256 32 rows row (movePlace number + 17);
+      resent = wordAt 256 32 rows row (movePlace number + 16) / 4096;
     }
+
+-- the word of a move
+abbrev pub moveWord : Move → ℕ
+moveWord made = made .resent % 256 * 4096 + made .from % 64 * 64 + made .to % 64
 
 -- the rows with a move of a number put into its place
 abbrev pub withMove : List ℕ → ℕ → ℕ → Move → List ℕ
 withMove rows row number made =
-    withWord 256 32 (withWord 256 32 rows row (movePlace number + 16) (made .from % 64 * 64 + made .to % 64)) row (movePlace number + 17) (made .line)
+    withWord 256 32 (withWord 256 32 rows row (movePlace number + 16) (moveWord made)) row (movePlace number + 17) (made .line)

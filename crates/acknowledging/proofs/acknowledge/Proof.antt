@@ -1,6 +1,5 @@
 -- `acknowledging::acknowledge` meets its contract: a reply over 0 changes nothing, else the messages up to b are retired and the two
 -- numbers after it are stored. Assumes nothing.
-use Prim.Native.Nat.{_-_}
 use mathlib.Core.Path.{sym, _∙_}
 use borrow.Author.Needs.{needs}
 use Rattle.replies.proofs.Rows.{refused, done}

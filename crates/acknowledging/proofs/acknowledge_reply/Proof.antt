@@ -1,6 +1,5 @@
 -- `acknowledging::acknowledge_reply` meets its contract: its tests in order are the rows in order.
 -- Assumes nothing.
-use Prim.Native.Nat.{_-_}
 use mathlib.Core.Bool.{not}
 use mathlib.Core.List.{[], _∷_}
 use mathlib.Core.Path.{_≡_, sym, ap, _∙_}

@@ -3,7 +3,6 @@
 use borrow.Author.Needs.{needs}
 use borrow.Author.Tests.{lt-ltb, le-ltb}
 use native.Mathlib.Nat.{add-zero}
-use Prim.Native.Nat.{_-_}
 use Rattle.area_links.proofs.load_link.Statement.{statement}
 use Rattle.area_links.proofs.load_link.Tie as tie
 

@@ -3,7 +3,6 @@
 use borrow.Author.Needs.{needs}
 use borrow.Author.Tests.{lt-ltb, le-ltb}
 use native.Mathlib.Numerals.{towards-suc}
-use Prim.Native.Nat.{_-_}
 use Rattle.area_links.proofs.store_link.Statement.{statement}
 use Rattle.area_links.proofs.store_link.Tie as tie
 use Rattle.area_flags.proofs.word.Reads as word-reads

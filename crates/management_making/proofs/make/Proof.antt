@@ -3,10 +3,7 @@
 use Rattle.plan_words.specs.Words.{planAt}
 use Rattle.management_making.proofs.Making.{not-made, is-queued, path-is}
 use borrow.Author.Needs.{needs}
-use mathlib.Core.Path.{_≡_, refl, sym, ap, _∙_}
-use Prim.Native.Nat.{ℕ, _+_, _-_, _≤_, _<_}
 use native.Mathlib.Omega.{arith}
-use lib.ListN.{length, take, drop, getD, length-take}
 use Rattle.management_making.proofs.make.Statement.{statement}
 use Rattle.management_making.proofs.make.Tie as tie
 

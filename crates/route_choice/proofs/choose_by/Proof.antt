@@ -14,7 +14,7 @@ use Rattle.route_serving.specs.State as State
 use Rattle.plan.specs.Data.{absentRoute, linksOf}
 use Rattle.plan_words.specs.Words.{planAt}
 use Rattle.plan_words.proofs.Said.{eight-sets}
-use Rattle.route_choice.specs.Which.{Proper, setFor, inTurn, linkOfSet, linkFrom}
+use Rattle.route_choice.specs.Which.{Proper, inTurn, linkOfSet, linkFrom}
 use Rattle.plan.proofs.Tables.{unmapped}
 use Rattle.route_choice.proofs.InTurn.{set-links}
 use Rattle.route_choice.proofs.Ranks.{onward, past-ranks, rank-passed, rank-taken}

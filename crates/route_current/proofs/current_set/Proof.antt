@@ -5,7 +5,6 @@ use Rattle.lookup.specs.Lookup.{setOf}
 use Rattle.route_current.specs.Current.{currentSet}
 use borrow.Author.Needs.{needs}
 use mathlib.Core.Path.{ap, _∙_}
-use Prim.Native.Nat.{_-_}
 use Rattle.route_current.proofs.current_set.Statement.{statement}
 use Rattle.route_current.proofs.current_set.Tie as tie
 

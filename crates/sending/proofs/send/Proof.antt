@@ -1,6 +1,5 @@
 -- `sending::send` meets its contract: a reply over 0 changes nothing, else the first unsent message is written out and one message more
 -- is stored as sent. Assumes nothing.
-use Prim.Native.Nat.{_-_}
 use mathlib.Core.Path.{_∙_}
 use borrow.Author.Needs.{needs}
 use Rattle.replies.proofs.Rows.{refused, done}

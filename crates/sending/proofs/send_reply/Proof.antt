@@ -1,6 +1,5 @@
 -- `sending::send_reply` meets its contract: its tests in order are the rows in order, the last three of them one row.
 -- Assumes nothing.
-use Prim.Native.Nat.{_-_}
 use mathlib.Core.Bool.{cond, not, _||_}
 use mathlib.Core.List.{[], _∷_}
 use mathlib.Core.Path.{_≡_, sym, ap, _∙_}

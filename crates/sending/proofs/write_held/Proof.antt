@@ -1,6 +1,5 @@
 -- `sending::write_held` meets its contract: what is listed under the slot's heading is written, and nothing where nothing is.
 -- Assumes nothing.
-use Prim.Native.Nat.{_-_}
 use mathlib.Core.Path.{ap, sym, _∙_}
 use borrow.Author.Needs.{needs}
 use Rattle.plan_words.specs.Words.{planAt}

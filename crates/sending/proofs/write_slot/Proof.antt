@@ -1,6 +1,5 @@
 -- `sending::write_slot` meets its contract: a user message is copied, a management message is written from its fields.
 -- Assumes nothing.
-use Prim.Native.Nat.{_-_}
 use mathlib.Core.Path.{_∙_}
 use borrow.Author.Needs.{needs}
 use borrow.Author.Tests.{lt-ltb, le-ltb}

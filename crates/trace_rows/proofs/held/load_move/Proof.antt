@@ -31,21 +31,30 @@ add-t8 c = search needs
 mul-t6 : tie.Need-mul-t6
 mul-t6 c = search needs
 
-element-copy-out-t15 : tie.Need-element-copy-out-t15
-element-copy-out-t15 c = search needs
+element-copy-out-t16 : tie.Need-element-copy-out-t16
+element-copy-out-t16 c = search needs
 
-add-t17 : tie.Need-add-t17
-add-t17 c = search needs
+add-t18 : tie.Need-add-t18
+add-t18 c = search needs
 
-mul-t18 : tie.Need-mul-t18
-mul-t18 c = search needs
+mul-t19 : tie.Need-mul-t19
+mul-t19 c = search needs
 
-element-copy-out-t21 : tie.Need-element-copy-out-t21
-element-copy-out-t21 c = search needs
+element-copy-out-t22 : tie.Need-element-copy-out-t22
+element-copy-out-t22 c = search needs
+
+add-t23 : tie.Need-add-t23
+add-t23 c = search needs
+
+mul-t24 : tie.Need-mul-t24
+mul-t24 c = search needs
+
+element-copy-out-t27 : tie.Need-element-copy-out-t27
+element-copy-out-t27 c = search needs
 
 returns : tie.Need-returns
 returns c =
-    let row = c .before .before .before .args .row in
+    let row = c .before .before .before .before .args .row in
     let there : row < 256 = omega arith in
     simp (add-assoc, lt-ltb row 256 there)
 
@@ -61,8 +70,11 @@ load-move-spec =
     element-copy-out-t7
     add-t8
     mul-t6
-    element-copy-out-t15
-    add-t17
-    mul-t18
-    element-copy-out-t21
+    element-copy-out-t16
+    add-t18
+    mul-t19
+    element-copy-out-t22
+    add-t23
+    mul-t24
+    element-copy-out-t27
     returns)
