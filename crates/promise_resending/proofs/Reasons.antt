@@ -55,27 +55,27 @@ use Rattle.promise_resending.specs.Reasons.{droppedWith, Reasons}
 use Rattle.promise_resending.proofs.Given.{dropped-append, dropped-other, changes-none}
 
 -- a step by which nothing is dropped
-abbrev Spares : Step → Type 0
-Spares step = step .parts .dropped ≡ 0
+abbrev DropsNone : Step → Type 0
+DropsNone step = step .parts .dropped ≡ 0
 
-at-spares : (known : LinkRecord) (f : ℕ) → cutAt known f .dropped ≡ 0
+at-drops-none : (known : LinkRecord) (f : ℕ) → cutAt known f .dropped ≡ 0
 unfolding cutAt
-at-spares known f =
+at-drops-none known f =
     by-test (λ (c : Cut). c .dropped ≡ 0) (inRange 128 (known .acknowledged) (known .sent) f) (cut (distance 128 (known .acknowledged) f) 0) cutNone
     (λ on. refl)
     (λ off. refl)
 
-order-spares : (known : LinkRecord) (link : ℕ) (own emergency : Draft) (parts : Cut) → parts .dropped ≡ 0
-    → Spares (orderStep known link own emergency parts)
+order-drops-none : (known : LinkRecord) (link : ℕ) (own emergency : Draft) (parts : Cut) → parts .dropped ≡ 0
+    → DropsNone (orderStep known link own emergency parts)
 unfolding orderStep
-order-spares known link own emergency parts none =
-    by-test Spares (eqb (known .state) 0) (answer emergency) (answerAndEnd own link (cond (eqb (known .state) 1) cutNone parts)) (λ out. refl)
+order-drops-none known link own emergency parts none =
+    by-test DropsNone (eqb (known .state) 0) (answer emergency) (answerAndEnd own link (cond (eqb (known .state) 1) cutNone parts)) (λ out. refl)
     (λ in-service. by-test (λ (c : Cut). c .dropped ≡ 0) (eqb (known .state) 1) cutNone parts (λ waits. refl) (λ carries. none))
 
-ack-spares : (link : ℕ) (known : LinkRecord) (parts : Cut) → parts .dropped ≡ 0 → Spares (ackStep link known parts)
+ack-drops-none : (link : ℕ) (known : LinkRecord) (parts : Cut) → parts .dropped ≡ 0 → DropsNone (ackStep link known parts)
 unfolding ackStep
-ack-spares link known parts none =
-    by-test Spares (ltb link 32 && eqb (known .timer) 2) (end link parts) nothing (λ counts. none) (λ ignored. refl)
+ack-drops-none link known parts none =
+    by-test DropsNone (ltb link 32 && eqb (known .timer) 2) (end link parts) nothing (λ counts. none) (λ ignored. refl)
 
 -- what a message asks of a link, unless it is an ECO or ECA
 module _ (plan : Plan) (links marks : List ℕ) (arriving fsn point slc : ℕ) where
@@ -85,62 +85,62 @@ module _ (plan : Plan) (links marks : List ℕ) (arriving fsn point slc : ℕ) w
   abbrev known : LinkRecord
   known = recordAt links link
 
-  asked-spares : (message : Message) → (message ≡ ECO → ⊥) → (message ≡ ECA → ⊥)
-      → Spares (stepAsked plan links marks arriving fsn point slc message)
+  asked-drops-none : (message : Message) → (message ≡ ECO → ⊥) → (message ≡ ECA → ⊥)
+      → DropsNone (stepAsked plan links marks arriving fsn point slc message)
   unfolding asked askCOO askCOA askCBD askRST
-  asked-spares (COO f) no-eco no-eca =
+  asked-drops-none (COO f) no-eco no-eca =
       let own = draft (COA (lastReceived links arriving fsn link)) point slc link in
-      by-test Spares (ltb link 32) (orderStep known link own (emergencyOf point slc link) (cutAt known f)) nothing
-      (λ e. order-spares known link own (emergencyOf point slc link) (cutAt known f) (at-spares known f))
+      by-test DropsNone (ltb link 32) (orderStep known link own (emergencyOf point slc link) (cutAt known f)) nothing
+      (λ e. order-drops-none known link own (emergencyOf point slc link) (cutAt known f) (at-drops-none known f))
       (λ e. refl)
-  asked-spares (COA f) no-eco no-eca = ack-spares link known (cutAt known f) (at-spares known f)
-  asked-spares (CBD code) no-eco no-eca =
-      by-test Spares (ltb link 32) (answer (draft (CBA code) point slc 32)) nothing (λ e. refl) (λ e. refl)
-  asked-spares (CBA code) no-eco no-eca = refl
-  asked-spares ECO no-eco no-eca = absurd (no-eco refl)
-  asked-spares ECA no-eco no-eca = absurd (no-eca refl)
-  asked-spares (TFP x) no-eco no-eca = refl
-  asked-spares (TFA x) no-eco no-eca = refl
-  asked-spares (RST x) no-eco no-eca =
-      by-test Spares (allows plan links marks point x) (answer (draft (TFA x) point 0 32)) nothing (λ e. refl) (λ e. refl)
+  asked-drops-none (COA f) no-eco no-eca = ack-drops-none link known (cutAt known f) (at-drops-none known f)
+  asked-drops-none (CBD code) no-eco no-eca =
+      by-test DropsNone (ltb link 32) (answer (draft (CBA code) point slc 32)) nothing (λ e. refl) (λ e. refl)
+  asked-drops-none (CBA code) no-eco no-eca = refl
+  asked-drops-none ECO no-eco no-eca = absurd (no-eco refl)
+  asked-drops-none ECA no-eco no-eca = absurd (no-eca refl)
+  asked-drops-none (TFP x) no-eco no-eca = refl
+  asked-drops-none (TFA x) no-eco no-eca = refl
+  asked-drops-none (RST x) no-eco no-eca =
+      by-test DropsNone (allows plan links marks point x) (answer (draft (TFA x) point 0 32)) nothing (λ e. refl) (λ e. refl)
 
 -- how a call ends that brings neither
 module _ (plan : Plan) (a : Areas) (call : Call) (neither : (link : ℕ) → Brings plan call link WithoutNumber → ⊥) where
-  came-spares : (arriving fsn : ℕ) → call .event ≡ Received arriving fsn → (came : Came) → fromLink plan (call .message) ≡ came
+  came-drops-none : (arriving fsn : ℕ) → call .event ≡ Received arriving fsn → (came : Came) → fromLink plan (call .message) ≡ came
       → endingByMessage plan a arriving fsn came .parts .dropped ≡ 0
   unfolding endingByMessage endingByStep
-  came-spares arriving fsn received Malformed read = refl
-  came-spares arriving fsn received Foreign read = refl
-  came-spares arriving fsn received Delivered read = refl
-  came-spares arriving fsn received (Passed label) read = refl
-  came-spares arriving fsn received (Managed order) read =
+  came-drops-none arriving fsn received Malformed read = refl
+  came-drops-none arriving fsn received Foreign read = refl
+  came-drops-none arriving fsn received Delivered read = refl
+  came-drops-none arriving fsn received (Passed label) read = refl
+  came-drops-none arriving fsn received (Managed order) read =
       let brings : WithoutNumber (order .message) → ⊥ =
       λ says.
       neither (linkNamed plan (order .point) (order .slc))
       (record { arriving = arriving; fsn = fsn; order = order; received = received; read = read; says = says; names = refl })
       in
-      asked-spares plan (a .links) (a .marks) arriving fsn (order .point) (order .slc) (order .message) (λ is. brings (inl is)) (λ is. brings (inr is))
+      asked-drops-none plan (a .links) (a .marks) arriving fsn (order .point) (order .slc) (order .message) (λ is. brings (inl is)) (λ is. brings (inr is))
 
-  ending-spares : (event : Event) → call .event ≡ event → endingOf plan a (call .message) (viewOf event) .parts .dropped ≡ 0
+  ending-drops-none : (event : Event) → call .event ≡ event → endingOf plan a (call .message) (viewOf event) .parts .dropped ≡ 0
   unfolding endingOf endingByTimer endingByFailure
-  ending-spares (IntoService link) is = refl
-  ending-spares (Failure link) is = refl
-  ending-spares (Send link) is = refl
-  ending-spares (Acknowledgement link b) is = refl
-  ending-spares (Received link fsn) is =
+  ending-drops-none (IntoService link) is = refl
+  ending-drops-none (Failure link) is = refl
+  ending-drops-none (Send link) is = refl
+  ending-drops-none (Acknowledgement link b) is = refl
+  ending-drops-none (Received link fsn) is =
       by-test (λ (e : Ending). e .parts .dropped ≡ 0) (eqb (Receive.replyOf plan (a .links) link fsn (a .reports)) 0)
       (endingByMessage plan a link fsn (fromLink plan (call .message)))
       (noEnding a)
-      (λ done. came-spares link fsn is (fromLink plan (call .message)) refl)
+      (λ done. came-drops-none link fsn is (fromLink plan (call .message)) refl)
       (λ refused. refl)
-  ending-spares FromHost is = refl
-  ending-spares (T1 link) is = refl
-  ending-spares (T2 link) is = refl
-  ending-spares (T3 link) is = refl
-  ending-spares (T4 link) is = refl
-  ending-spares (T6 x) is = refl
-  ending-spares (T8 x) is = refl
-  ending-spares (T10 x set) is = refl
+  ending-drops-none FromHost is = refl
+  ending-drops-none (T1 link) is = refl
+  ending-drops-none (T2 link) is = refl
+  ending-drops-none (T3 link) is = refl
+  ending-drops-none (T4 link) is = refl
+  ending-drops-none (T6 x) is = refl
+  ending-drops-none (T8 x) is = refl
+  ending-drops-none (T10 x set) is = refl
 
 -- what is told for a reason other than 1
 module _ (plan : Plan) (reason : ℕ) (low : reason < 4) (not-1 : 1 ≡ reason → ⊥) where
@@ -245,5 +245,5 @@ module _ (m : Memory) (whole : Whole m) (text : List ℕ) (calls : List Call) wh
             ap (droppedWith 2) told
             ∙ call-none its 2 (lit< tt) (λ e. omega (arith, e)) (call .message) (call .event) a r
             (ap (λ (n : ℕ). droppedWith 2 (dropsFor 2 (from .rows) (take n (drop (ending .parts .retired) slots))))
-            (ending-spares its a call neither (call .event) refl));
+            (ending-drops-none its a call neither (call .event) refl));
       }
