@@ -8,7 +8,7 @@ use area_flags::word;
 use constants::{LINKS, OUT};
 
 // What changes of a link.
-#[derive(Drop)]
+#[derive(Clone, Copy)]
 pub struct LinkRecord {
     // 0 out, 1 waiting, 2 open, 3 changing.
     pub state: u8,

@@ -5,7 +5,7 @@ ghost use Rattle.std.specs.Prelude.{◌≡◌};
 ghost use Rattle.area_slots.specs.SlotRows.{slot_at, with_slot};
 
 // What is known of a held message beside its octets.
-#[derive(Drop)]
+#[derive(Clone, Copy)]
 pub struct Slot {
     pub arrival: u64,
     pub heading: u64,

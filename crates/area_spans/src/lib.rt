@@ -5,7 +5,7 @@ ghost use Rattle.std.specs.Prelude.{◌≡◌};
 ghost use Rattle.area_spans.specs.SpanRows.{span_at, with_span};
 
 // Where a ring begins, and how many slots it holds.
-#[derive(Drop)]
+#[derive(Clone, Copy)]
 pub struct Span {
     pub head: u16,
     pub count: u16,

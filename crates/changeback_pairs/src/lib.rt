@@ -11,7 +11,7 @@ use route_access::given_of;
 use route_ways::current;
 
 // The link of its own set, 32 where there is none, and whether one is of another set.
-#[derive(Drop)]
+#[derive(Clone, Copy)]
 pub struct Sources {
     pub own: u8,
     pub other: bool,

@@ -9,7 +9,7 @@ use constants::OUT;
 use counting::{distance, in_range};
 
 // What becomes of a queue: how many are retired, and how many then dropped; the rest moves.
-#[derive(Drop)]
+#[derive(Clone, Copy)]
 pub struct Cut {
     pub retired: u8,
     pub dropped: u8,

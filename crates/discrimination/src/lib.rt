@@ -10,14 +10,14 @@ use wire::header::{Header, HeaderRead, Label, read_header};
 use wire_messages::management::{Message, MessageRead, read_message};
 
 // A management message for us, and who sent it with which SLC.
-#[derive(Drop)]
+#[derive(Clone, Copy)]
 pub struct Order {
     pub point: u16,
     pub slc: u8,
     pub message: Message,
 }
 
-#[derive(Drop)]
+#[derive(Clone, Copy)]
 pub enum Came {
     // Reply 3.
     Malformed,

@@ -12,7 +12,7 @@ use text_pages::put_number;
 
 // What became of a message, by its arrival number: it was queued on a link, 32 where it is held apart, with its heading, 0 for a user message;
 // left over a link with a number; was acknowledged or retired there; or left one queue for another.
-#[derive(Drop)]
+#[derive(Clone, Copy)]
 pub enum Fate {
     Unchanged,
     Queued(u64, u8, u64),

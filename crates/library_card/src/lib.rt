@@ -9,21 +9,21 @@ use counting::{distance, in_range, next};
 
 // The last sent and the last acknowledged number.
 #[repr(C)]
-#[derive(Drop)]
+#[derive(Clone, Copy)]
 pub struct Record {
     pub sent: u8,
     pub acknowledged: u8,
 }
 
 // The record after a send, and the number with which the message leaves.
-#[derive(Drop)]
+#[derive(Clone, Copy)]
 pub struct Sent {
     pub link: Record,
     pub number: u8,
 }
 
 // The record after an acknowledgement, and whether its number is in range.
-#[derive(Drop)]
+#[derive(Clone, Copy)]
 pub struct Acknowledged {
     pub link: Record,
     pub accepted: bool,

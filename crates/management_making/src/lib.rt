@@ -13,7 +13,7 @@ use route_ways::{for_management, way};
 use wire_messages::management::Message;
 
 // What it says, where it goes, and the link that it never uses (32 where there is none).
-#[derive(Drop)]
+#[derive(Clone, Copy)]
 pub struct Draft {
     pub message: Message,
     pub point: u16,
@@ -22,7 +22,7 @@ pub struct Draft {
 }
 
 // Whether it was made, or the reply 8 or 10 where it finds no place or number.
-#[derive(Drop)]
+#[derive(Clone, Copy)]
 pub struct Made {
     pub reply: u8,
     pub made: bool,

@@ -11,7 +11,7 @@ use constants::{NO_LINK, OUT, WAITING};
 use management_making::Draft;
 use wire_messages::management::Message;
 
-#[derive(Drop)]
+#[derive(Clone, Copy)]
 pub struct Step {
     // 0, or 11 where it names nothing or fits no state.
     pub reply: u8,

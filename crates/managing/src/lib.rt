@@ -17,14 +17,14 @@ use rerouting::transfer::transfer;
 use wire_messages::management::Message;
 
 // That a destination can't be reached by the sender of a TFP, or can again by that of a TFA.
-#[derive(Drop)]
+#[derive(Clone, Copy)]
 pub struct Prohibition {
     pub x: u16,
     pub prohibits: bool,
 }
 
 // What a message does.
-#[derive(Drop)]
+#[derive(Clone, Copy)]
 pub enum Effect {
     // It is answered, or ends a changeover.
     Carries(Step),

@@ -6,7 +6,7 @@ ghost use Rattle.node.specs.Ask.{answer_to, written_for};
 use replies::Answer;
 use route_list::list::route_list;
 
-#[derive(Drop)]
+#[derive(Clone, Copy)]
 pub enum Question {
     // The current link of each pair.
     RouteList,

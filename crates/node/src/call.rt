@@ -15,7 +15,7 @@ use rerouting::timer::{expire_t6, expire_t10};
 use rerouting_expiry::expire_t8;
 use sending::send;
 
-#[derive(Drop)]
+#[derive(Clone, Copy)]
 pub enum Event {
     // Of a link: it comes into service, it fails, level 2 asks for its next message.
     IntoService(u8),

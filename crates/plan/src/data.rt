@@ -4,14 +4,14 @@ ghost use Rattle.plan.specs.Data.{empty_plan};
 
 // A route of a destination by a set; its place among the four is its rank, 0 the best.
 #[repr(C)]
-#[derive(Drop)]
+#[derive(Clone, Copy)]
 pub struct Route {
     pub given: bool,
     pub set: u8,
 }
 
 #[repr(C)]
-#[derive(Drop)]
+#[derive(Clone, Copy)]
 pub struct Destination {
     pub code: u16,
     pub routes: [Route; 4],
@@ -19,7 +19,7 @@ pub struct Destination {
 
 // A set, its adjacent point, and its links in SLC order: the first `count` of the eight.
 #[repr(C)]
-#[derive(Drop)]
+#[derive(Clone, Copy)]
 pub struct LinkSet {
     pub given: bool,
     pub adjacent: u16,
@@ -28,7 +28,7 @@ pub struct LinkSet {
 }
 
 #[repr(C)]
-#[derive(Drop)]
+#[derive(Clone, Copy)]
 pub struct Link {
     pub given: bool,
     pub set: u8,
@@ -37,7 +37,7 @@ pub struct Link {
 
 // The first `count` destinations are given, in ascending code.
 #[repr(C)]
-#[derive(Drop)]
+#[derive(Clone, Copy)]
 pub struct Plan {
     pub given: bool,
     pub code: u16,

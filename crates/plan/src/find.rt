@@ -5,14 +5,14 @@ ghost use Rattle.plan.specs.Find.{place_of, is_found, there_of};
 use crate::data::{Plan, Route};
 
 // The place of a code, and whether a given destination has it. If none has, one would have to be put in there.
-#[derive(Drop)]
+#[derive(Clone, Copy)]
 pub struct Found {
     pub given: bool,
     pub place: usize,
 }
 
 // The same, with the routes of the destination at that place: none where no destination is given there.
-#[derive(Drop)]
+#[derive(Clone, Copy)]
 pub struct There {
     pub given: bool,
     pub place: usize,

@@ -4,7 +4,7 @@
 use plan::data::Plan;
 
 // The plan with the statement, fault 0; or the fault, and the plan as it was.
-#[derive(Drop)]
+#[derive(Clone, Copy)]
 pub struct Added {
     pub fault: u8,
     pub plan: Plan,

@@ -15,7 +15,7 @@ use text_lines::line_from;
 
 // Fault 0 and the plan; or the first faulty line, its first fault, and a plan with no node.
 #[repr(C)]
-#[derive(Drop)]
+#[derive(Clone, Copy)]
 pub struct Configured {
     pub line: usize,
     pub fault: u8,

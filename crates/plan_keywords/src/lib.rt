@@ -7,7 +7,7 @@ ghost use Rattle.plan_keywords.specs.StatementWords as Words;
 use text::part::same;
 
 // The words that a line may begin with.
-#[derive(Drop)]
+#[derive(Clone, Copy)]
 pub enum Word {
     Node,
     Set,

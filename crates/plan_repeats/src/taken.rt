@@ -37,7 +37,7 @@ pub fn set_taken(routes: [Route; 4], set: u8) -> bool
 }
 
 // Where a new SLC stands among those of a set: whether one of its links has it, and how many have a lower one.
-#[derive(Drop)]
+#[derive(Clone, Copy)]
 pub struct Around {
     pub taken: bool,
     pub lower: usize,

@@ -11,7 +11,7 @@ use text_decimals::decimal::{Number, decimal};
 use text_fields::first_four;
 
 // A line's word and its numbers, whatever their range; a third that the word doesn't take is 0.
-#[derive(Drop)]
+#[derive(Clone, Copy)]
 pub struct Statement {
     pub word: Word,
     pub first: u64,
@@ -20,7 +20,7 @@ pub struct Statement {
 }
 
 // What a line says, or its fault: 20 or 21.
-#[derive(Drop)]
+#[derive(Clone, Copy)]
 pub enum Said {
     Says(Statement),
     Faulty(u8),

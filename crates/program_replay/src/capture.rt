@@ -10,14 +10,14 @@ use tool_words::lines::{Entry, entry_of, past_two, value};
 const WITH_HEADER: u64 = 139;
 
 // Where the capture stands: what is written, and the line of the record that was answered last.
-#[derive(Drop)]
+#[derive(Clone, Copy)]
 struct Captured {
     packets: Writer,
     entry: Entry,
 }
 
 // What stands before a message: whether it was sent, its link, its FSN and its length.
-#[derive(Drop)]
+#[derive(Clone, Copy)]
 struct Header {
     sent: u8,
     link: u64,

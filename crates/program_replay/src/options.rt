@@ -5,7 +5,7 @@ use tool_files::arguments;
 use tool_files::arguments::{Arguments, NO_LINE, Word, ends, next_word, settled, unread};
 
 // The places of words among the arguments are 0 where the word isn't there.
-#[derive(Drop)]
+#[derive(Clone, Copy)]
 pub struct Options {
     // The lines of the record whose answers are shown.
     pub first: u64,

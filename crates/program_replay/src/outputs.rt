@@ -7,7 +7,7 @@ use tool_files::progress::Progress;
 use tool_files::writer::{Writer, closed};
 use tool_files::{progress, status};
 
-#[derive(Drop)]
+#[derive(Clone, Copy)]
 pub struct Outputs {
     pub answers: Writer,
     pub packets: Writer,

@@ -104,7 +104,7 @@ fn refuse(options: Options, line: usize, fault: u8) -> u8 {
 }
 
 // Where a run stands: the next line, what is written, how much of the piece is filled, and whether nothing more is run.
-#[derive(Drop)]
+#[derive(Clone, Copy)]
 struct Turn {
     place: Place,
     outputs: Outputs,

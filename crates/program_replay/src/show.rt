@@ -6,14 +6,14 @@ use tool_files::writer::{Writer, add, flush, write};
 use tool_words::lines::{Entry, entry_of};
 
 // What is asked for: the call before each answer, and words behind what is a number.
-#[derive(Drop)]
+#[derive(Clone, Copy)]
 pub struct Asked {
     pub calls: bool,
     pub words: bool,
 }
 
 // Where the showing stands: what is written, and the line of the record that was answered last.
-#[derive(Drop)]
+#[derive(Clone, Copy)]
 struct Shown {
     output: Writer,
     entry: Entry,

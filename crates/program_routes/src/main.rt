@@ -46,7 +46,7 @@ fn show_file(i: usize, several: bool) {
 }
 
 // How many octets a file gave, or that it can't be read.
-#[derive(Drop)]
+#[derive(Clone, Copy)]
 struct Got {
     failed: bool,
     count: usize,

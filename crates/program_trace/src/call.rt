@@ -13,7 +13,7 @@ use trace_picture::draw::{Scene, draw};
 use trace_picture::file::Picture;
 
 // What is written: the lines with their books, and the picture.
-#[derive(Drop)]
+#[derive(Clone, Copy)]
 pub struct Outputs {
     pub books: Books,
     pub picture: Picture,
@@ -77,7 +77,7 @@ fn call_of(octets: &[u8; 1024], count: usize, number: u64, code: u64) -> Call {
 }
 
 // A link that a call has put out, and by what; the far point's code, whether the call brought a message, and whether sentences are asked for.
-#[derive(Drop)]
+#[derive(Clone, Copy)]
 struct Ending {
     gone: Gone,
     cause: Cause,
@@ -121,7 +121,7 @@ fn take_ending(
 }
 
 // How long a sentence is, and what put the link out.
-#[derive(Drop)]
+#[derive(Clone, Copy)]
 struct Words {
     length: usize,
     told: usize,

@@ -5,7 +5,7 @@ use tool_files::arguments;
 use tool_files::arguments::{Arguments, NO_LINE, Word, complete, ends, next_word, unread};
 use trace_books::asked::{ANY, Asked};
 
-#[derive(Drop)]
+#[derive(Clone, Copy)]
 pub struct Options {
     pub asked: Asked,
     // The place of the picture's file among the arguments, 0 where it isn't asked for.

@@ -90,7 +90,7 @@ fn refuse(line: usize, fault: u8) -> u8 {
 }
 
 // Where a run stands: the next line, what is written, how far it is, how much of the piece is filled; its status, and whether nothing more is run.
-#[derive(Drop)]
+#[derive(Clone, Copy)]
 struct Turn {
     place: Place,
     outputs: Outputs,

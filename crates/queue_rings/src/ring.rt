@@ -5,7 +5,7 @@ ghost use Rattle.queue_rings.specs.Ring as Ring;
 use area_spans::{Span, load_span, store_span};
 
 // A slot of a ring, or that there is none.
-#[derive(Drop)]
+#[derive(Clone, Copy)]
 pub struct Taken {
     pub found: bool,
     pub slot: u8,

@@ -13,7 +13,7 @@ use text_fields::first_four;
 use text_hex::hex::{Octets, hex};
 
 // A line's kind, its numbers, whatever their range, and how many octets it has; a number that the kind doesn't take is 0.
-#[derive(Drop)]
+#[derive(Clone, Copy)]
 pub struct Said {
     pub kind: Kind,
     pub first: u64,
@@ -21,7 +21,7 @@ pub struct Said {
     pub octets: usize,
 }
 
-#[derive(Drop)]
+#[derive(Clone, Copy)]
 pub enum Entry {
     Says(Said),
     Unreadable,

@@ -4,7 +4,7 @@
 ghost use Rattle.std.specs.Prelude.{◌≡◌};
 ghost use Rattle.record_kinds.specs.Kind as Kind·;
 
-#[derive(Drop)]
+#[derive(Clone, Copy)]
 pub enum Kind {
     Service,
     Failure,
@@ -24,7 +24,7 @@ pub enum Kind {
 }
 
 // What stands behind the word.
-#[derive(Drop)]
+#[derive(Clone, Copy)]
 pub enum Form {
     Bare,
     OneNumber,

@@ -11,13 +11,13 @@ use record_entry::{Entry, read_entry};
 use record_kinds::Kind;
 
 // A call: the event, and how many octets its message has.
-#[derive(Drop)]
+#[derive(Clone, Copy)]
 pub struct Line {
     pub event: Event,
     pub octets: usize,
 }
 
-#[derive(Drop)]
+#[derive(Clone, Copy)]
 pub enum Reading {
     Call(Line),
     Asks(Question),

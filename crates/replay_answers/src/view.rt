@@ -9,7 +9,7 @@ use replay_showing::shows::Shows;
 use replies::Answer;
 
 // Which answers are shown: those of the lines from one to another, whole or their reports alone, and whether with their fates.
-#[derive(Drop)]
+#[derive(Clone, Copy)]
 pub struct View {
     pub first: u64,
     pub last: u64,

@@ -9,7 +9,7 @@ use fate_lines::Fate;
 use fate_places::message_at;
 
 // The parts of what is told of a call: the messages from a number on, those that it takes out of the queues, and those that it moves.
-#[derive(Drop)]
+#[derive(Clone, Copy)]
 pub enum Part {
     Arriving(u64),
     Acknowledging,
@@ -19,7 +19,7 @@ pub enum Part {
 
 // What is known of a call: the next arrival number before it, whether it is an acknowledgement, the link that it sends on (32 for none) and the
 // number that the message leaves with, and how many reports it wrote.
-#[derive(Drop)]
+#[derive(Clone, Copy)]
 pub struct Told {
     pub next: u64,
     pub acknowledges: bool,

@@ -14,7 +14,7 @@ use text::part::{Part, between, line};
 
 // Where a run stands: the next line's place in the text and its number, how much of the page isn't written out yet, and whether every
 // line so far could be read.
-#[derive(Drop)]
+#[derive(Clone, Copy)]
 pub struct Place {
     pub at: usize,
     pub number: u64,

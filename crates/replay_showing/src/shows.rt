@@ -1,5 +1,5 @@
 // What a call shows beside its reply.
-#[derive(Drop)]
+#[derive(Clone, Copy)]
 pub enum Shows {
     Sent,
     Delivered,

@@ -8,7 +8,7 @@ ghost use Rattle.route_serving.specs.State as State;
 use constants::{LINKS, OPEN_WORD, OUT_WORD};
 
 // What a link must be to serve: open, or else carrying, and not the one that is never used (32 where each may be).
-#[derive(Drop)]
+#[derive(Clone, Copy)]
 pub struct Need {
     pub open: bool,
     pub never: u8,

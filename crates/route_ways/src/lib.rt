@@ -28,7 +28,7 @@ pub fn for_management(never: u8) -> Need
 }
 
 // The link to a point, 32 where there is none, and the place of that point among the destinations.
-#[derive(Drop)]
+#[derive(Clone, Copy)]
 pub struct Direction {
     pub link: u8,
     pub place: usize,

@@ -36,7 +36,7 @@ fn empty_marks(marks: &mut [u32; 512])
 
 // What a configuration answers: fault 0, or the first faulty line and its first fault.
 #[repr(C)]
-#[derive(Drop)]
+#[derive(Clone, Copy)]
 pub struct Started {
     pub line: usize,
     pub fault: u8,

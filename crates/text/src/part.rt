@@ -4,7 +4,7 @@ ghost use Rattle.std.proofs.Math.Seq.{slice};
 ghost use Rattle.text.specs.Part as Part·;
 
 // Where a line or a field ends, whether its mark (LF, the tab) stands there, and where the next one begins.
-#[derive(Drop)]
+#[derive(Clone, Copy)]
 pub struct Part {
     pub end: usize,
     pub next: usize,

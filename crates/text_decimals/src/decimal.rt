@@ -6,7 +6,7 @@ ghost use Rattle.text_decimals.specs.Decimal.{number_of, digit_on, decimal_of};
 use text::put::put;
 
 // What a decimal says, or that it isn't plain or is above the top value.
-#[derive(Drop)]
+#[derive(Clone, Copy)]
 pub enum Number {
     Value(u64),
     Wrong,

@@ -7,7 +7,7 @@ ghost use Rattle.text_fields.specs.Fields.{counted, fields_at};
 use text::part::{Part, field};
 
 // Each field's end and where the next begins, of a line that has it; 5 counts for more than four.
-#[derive(Drop)]
+#[derive(Clone, Copy)]
 pub struct Found {
     pub count: u8,
     pub zero: Part,

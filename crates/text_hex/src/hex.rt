@@ -4,7 +4,7 @@ ghost use Rattle.text.specs.Put.{written, past};
 ghost use Rattle.text_hex.specs.Hex as Hex;
 
 // How many octets a text says, or that it isn't pairs of hex digits or has more than the area holds.
-#[derive(Drop)]
+#[derive(Clone, Copy)]
 pub enum Octets {
     Count(usize),
     Wrong,

@@ -8,14 +8,14 @@ ghost use Rattle.text.specs.Part.{line_at};
 use text::part::{Part, line};
 
 // A lent text and a place in it.
-#[derive(Drop)]
+#[derive(Clone, Copy)]
 pub struct Reader<'a> {
     pub text: &'a [u8],
     pub at: usize,
 }
 
 // A line's bounds, and the reader onward.
-#[derive(Drop)]
+#[derive(Clone, Copy)]
 pub struct Turn<'a> {
     pub line: Part,
     pub reader: Reader<'a>,

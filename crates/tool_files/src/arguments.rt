@@ -5,7 +5,7 @@ use text::part::{between, same};
 use tool_words::lines::{number_of, numbered};
 
 // The places of words among the arguments are 0 where the word isn't there.
-#[derive(Drop)]
+#[derive(Clone, Copy)]
 pub struct Arguments {
     pub configuration: usize,
     pub record: usize,
@@ -21,7 +21,7 @@ pub struct Arguments {
 
 // The arguments with one word more: the program's own option that it is, by its number (0 for any other word), the option's place, and that of the value
 // behind it.
-#[derive(Drop)]
+#[derive(Clone, Copy)]
 pub struct Word {
     pub arguments: Arguments,
     pub option: u64,

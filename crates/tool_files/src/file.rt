@@ -4,7 +4,7 @@ use libc::{SEEK_CUR, SEEK_END, SEEK_SET};
 use std::num::wrapping_add_usize;
 
 // A file and how many octets of it came, or that it failed.
-#[derive(Drop)]
+#[derive(Clone, Copy)]
 pub struct File {
     pub failed: bool,
     pub fd: i32,
@@ -98,7 +98,7 @@ fn plain(number: i64) -> u64 {
 }
 
 // What was left of a piece, and how many octets came behind it, or that reading failed.
-#[derive(Drop)]
+#[derive(Clone, Copy)]
 pub struct Piece {
     pub failed: bool,
     pub rest: usize,

@@ -6,7 +6,7 @@ use text::put::put;
 use text_pages::put_number;
 
 // Whether it is shown; how many octets of the record were read, of how many (0 where that isn't known); how many millions were told last.
-#[derive(Drop)]
+#[derive(Clone, Copy)]
 pub struct Progress {
     shown: bool,
     read: u64,

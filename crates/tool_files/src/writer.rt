@@ -5,7 +5,7 @@ use text::put::put;
 use text_decimals::decimal::put_decimal;
 
 // The file, how much of the area isn't written yet, and whether something couldn't be written: then nothing more is.
-#[derive(Drop)]
+#[derive(Clone, Copy)]
 pub struct Writer {
     pub fd: i32,
     pub held: usize,

@@ -4,7 +4,7 @@ use text::part::{between, field, line, same};
 use text_decimals::decimal::{Number, decimal};
 
 // A line: its place in a text, and its number.
-#[derive(Drop)]
+#[derive(Clone, Copy)]
 pub struct Entry {
     pub at: usize,
     pub number: u64,

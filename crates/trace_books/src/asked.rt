@@ -7,7 +7,7 @@ pub const ANY: u64 = u64::MAX;
 
 // The lines that brought them, the link whose queue they stood in, their destination and circuit; whether only those that may be lost or only those that
 // may arrive twice are shown, or only sentences about links.
-#[derive(Drop)]
+#[derive(Clone, Copy)]
 pub struct Asked {
     pub first: u64,
     pub last: u64,

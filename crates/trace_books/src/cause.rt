@@ -10,7 +10,7 @@ use trace_messages::told::NO_QUEUE;
 use wire_messages::management::{Message as Management, MessageRead, read_message};
 
 // A timer of its changeover; a changeover message, with its number, and whether that tells what the far end took; or the failure of a waiting link.
-#[derive(Drop)]
+#[derive(Clone, Copy)]
 pub enum Cause {
     T1,
     T2,

@@ -11,7 +11,7 @@ use trace_rows::held::load;
 use trace_rows::order::row_of;
 
 // The link that a call has put out, or none; the line at which it had failed, 0 where it hadn't; and its record before the call.
-#[derive(Drop)]
+#[derive(Clone, Copy)]
 pub struct Gone {
     pub link: u8,
     pub failed: u64,

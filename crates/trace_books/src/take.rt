@@ -13,14 +13,14 @@ use trace_rows::held::{Message, Move, load, store, store_move};
 use trace_rows::order::{place_of, row_at, set_free};
 
 // How many messages are held, and what is written.
-#[derive(Drop)]
+#[derive(Clone, Copy)]
 pub struct Books {
     pub count: usize,
     pub lines: Writer,
 }
 
 // A call: its line's number, the message that it brings, the changeover number in that, our code, and the link that it leaves in doubt.
-#[derive(Drop)]
+#[derive(Clone, Copy)]
 pub struct Call {
     pub line: u64,
     pub message: Message,

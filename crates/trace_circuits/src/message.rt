@@ -1,5 +1,5 @@
 // What a trace knows of a message that is held.
-#[derive(Drop)]
+#[derive(Clone, Copy)]
 pub struct Message {
     pub arrival: u64,
     // The record's line that brought it.

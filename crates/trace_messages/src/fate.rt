@@ -7,7 +7,7 @@ use tool_words::words::put_reason;
 use trace_rows::held::{Message, Move, load, load_move};
 
 // What became of a message: acknowledged at a line; retired by a changeover number at a line; dropped at a line for a reason; still held.
-#[derive(Drop)]
+#[derive(Clone, Copy)]
 pub enum Ending {
     Acknowledged(u64),
     Retired(u64, u64),

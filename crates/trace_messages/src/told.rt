@@ -23,7 +23,7 @@ pub const APART: u64 = 32;
 pub const NO_QUEUE: u64 = 33;
 
 // A word, 0 for one that tells nothing of a message; the numbers behind it, a queue's among them; and of a message that the node made the letters of its name.
-#[derive(Drop)]
+#[derive(Clone, Copy)]
 pub struct Told {
     pub word: u64,
     pub arrival: u64,

@@ -14,7 +14,7 @@ use trace_rows::order::row_of;
 
 // What is drawn: our code, the far point's, the link that went out, the lines of its failure (0 where it hadn't failed) and of the call,
 // whether a message put it out, the link if it is left in doubt, and how many messages are held.
-#[derive(Drop)]
+#[derive(Clone, Copy)]
 pub struct Scene {
     pub code: u64,
     pub far: u64,

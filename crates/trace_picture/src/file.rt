@@ -7,7 +7,7 @@ use tool_files::complaint::complain_of;
 use tool_files::writer::{Writer, add, closed, flush, onto};
 
 // The file, how far down it is drawn, and how wide.
-#[derive(Drop)]
+#[derive(Clone, Copy)]
 pub struct Picture {
     pub file: Writer,
     pub y: u64,

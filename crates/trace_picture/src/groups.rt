@@ -26,7 +26,7 @@ pub const TWICE: u64 = 2;
 const UNKNOWN: u64 = 2;
 
 // What is alike, how many there are, the rows of the first and the last; and how many groups were drawn before.
-#[derive(Drop)]
+#[derive(Clone, Copy)]
 pub struct Group {
     pub alike: u64,
     pub count: u64,

@@ -10,7 +10,7 @@ use trace_messages::kind::put_kind;
 use trace_rows::held::Message;
 
 // What a row needs to know: its height, how many columns stand behind our point, the column that messages move to, and the record's line of the changeover.
-#[derive(Drop)]
+#[derive(Clone, Copy)]
 pub struct Row {
     pub y: u64,
     pub columns: u64,

@@ -73,7 +73,7 @@ fn word(flag: bool) -> u64
 
 // A move: the links that it went from and to, and the record's line; and where the message may arrive twice by it the number that it had left with and one
 // more, else 0.
-#[derive(Drop)]
+#[derive(Clone, Copy)]
 pub struct Move {
     pub from: u64,
     pub to: u64,

@@ -3,21 +3,21 @@ ghost use Rattle.std.specs.Prelude.{◌≡◌, [], ◌∷◌};
 ghost use Rattle.wire.specs.Header.{label_of, from_low, read_header, after_label};
 
 // Where a message goes and comes from. With SI 0 the SLS is the SLC.
-#[derive(Drop)]
+#[derive(Clone, Copy)]
 pub struct Label {
     pub dpc: u16,
     pub opc: u16,
     pub sls: u8,
 }
 
-#[derive(Drop)]
+#[derive(Clone, Copy)]
 pub struct Header {
     pub si: u8,
     pub ni: u8,
     pub label: Label,
 }
 
-#[derive(Drop)]
+#[derive(Clone, Copy)]
 pub enum HeaderRead {
     Read(Header),
     // Fewer than 5 or more than 273 octets.

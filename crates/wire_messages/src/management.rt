@@ -2,7 +2,7 @@
 ghost use Rattle.std.specs.Prelude.{◌≡◌, get_or};
 ghost use Rattle.wire_messages.specs.Management as Management;
 
-#[derive(Drop)]
+#[derive(Clone, Copy)]
 pub enum Message {
     // Changeover order and acknowledgement: the last FSN received on that link.
     COO(u8),
@@ -19,7 +19,7 @@ pub enum Message {
     RST(u16),
 }
 
-#[derive(Drop)]
+#[derive(Clone, Copy)]
 pub enum MessageRead {
     Read(Message),
     // A heading that isn't listed, or a wrong total.
