@@ -4,7 +4,7 @@ use mathlib.Core.Bool.{false≢true}
 use lib.Seq.{slice}
 use borrow.Table.Steps.{cases}
 use Rattle.plan.specs.declared.data.Plan.{Plan}
-use Rattle.bytes.specs.Bytes.{index_of}
+use Rattle.text.specs.Index.{index_of}
 use Rattle.text.specs.declared.part.Part.{Part}
 use Rattle.text.specs.Part.{line_at, lf}
 use Rattle.text.proofs.Parts.{first_part, cut_length, next_onward, next_within}

@@ -1,3 +1,4 @@
 pub mod Areas
+pub mod Index
 pub mod Parts
 pub mod Same

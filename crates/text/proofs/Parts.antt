@@ -4,15 +4,14 @@ use mathlib.Core.Path.{◌≡◌, refl, sym, ap, ◌∙◌}
 use mathlib.Core.Bool.{true, false, cond, false≢true}
 use mathlib.Core.List.{List, [], ◌∷◌}
 use Prim.Native.Nat.{ℕ, zero, suc, ◌+◌, ◌-◌, ◌≤◌, ◌<◌, zero-le, suc-le-suc}
-use native.Mathlib.Nat.{zero-add, sub-zero, zero-sub, suc-sub-suc}
+use native.Mathlib.Nat.{sub-zero, zero-sub, suc-sub-suc}
 use native.Mathlib.Numerals.{add-one}
 use native.Mathlib.Omega.{arith}
 use lib.Dec.{eqb, leb-suc-suc}
 use lib.ListN.{length, take, drop, length-take, length-drop, drop_of_length-le}
 use lib.Seq.{slice, take_all, take-take, take-length, take-nil, drop-drop, length-slice}
 use borrow.Author.Tests.{ltb-true, ltb-false}
-use Rattle.bytes.specs.Bytes
-use Rattle.bytes.specs.Bytes.{index_of, index_after}
+use Rattle.text.specs.Index.{index_of}
 use Rattle.text.specs.Part.{marked, until, split}
 use borrow.Table.Steps.{cases}
 
@@ -35,14 +34,9 @@ cut_none at to text h = drop_of_length-le (take to text) {i = at} (omega (arith,
 pub cut_length : (at to : ℕ) (text : List ℕ) → length (slice at to text) ≤ length text - at
 cut_length at to text = simp (length-drop, length-take) (omega arith)
 
--- a mark is looked for in all of a part
-pub index_whole : (mark : ℕ) (part : List ℕ) → 0 + index_of mark (Bytes.slice 0 (length part) part) ≡ index_of mark part
-unfolding Bytes.slice
-index_whole mark part = simp (zero-add, take-length)
-
 -- a mark's index is at most the length
 pub index_within : (mark : ℕ) (text : List ℕ) → index_of mark text ≤ length text
-unfolding index_of index_after
+unfolding index_of
 index_within mark [] = zero-le
 index_within mark (x ∷ text) =
     cases (eqb x mark) (λ e. simp e zero-le) (λ e. simp e (suc-le-suc (index_within mark text)))
@@ -50,7 +44,7 @@ index_within mark (x ∷ text) =
 -- up to the first mark stands the first part, and behind the mark the others
 pub split_closed : (mark : ℕ) (s : List ℕ) → marked mark s ≡ true
     → split mark s ≡ take (index_of mark s) s ∷ split mark (drop (index_of mark s + 1) s)
-unfolding split index_of index_after
+unfolding split index_of
 split_closed mark [] h = absurd (false≢true h)
 split_closed mark (x ∷ s) h =
     cases (eqb x mark)
@@ -61,7 +55,7 @@ split_closed mark (x ∷ s) h =
 
 -- a text with no mark is one part
 pub split_last : (mark : ℕ) (s : List ℕ) → marked mark s ≡ false → split mark s ≡ s ∷ []
-unfolding split index_of index_after
+unfolding split index_of
 split_last mark [] h = refl
 split_last mark (x ∷ s) h =
     cases (eqb x mark)

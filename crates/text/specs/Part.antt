@@ -1,7 +1,7 @@
 -- Lines and fields. A text is lines, each ended by LF; a line is fields, parted by tabs.
 use Rattle.std.specs.Prelude.{ℕ, ◌+◌, Bool, true, false, cond, ◌&&◌, List, [], ◌∷◌, length, eqb, ltb}
 use Rattle.std.proofs.Math.Seq.{slice}
-use Rattle.bytes.specs.Bytes.{index_of}
+use Rattle.text.specs.Index.{index_of}
 use Rattle.text.specs.declared.part.Part.{Part}
 
 -- the mark that ends a line, LF

@@ -1,6 +1,7 @@
 // The next line of a text, the next field of a line.
 ghost use Rattle.std.specs.Prelude.{◌≡◌};
 ghost use Rattle.std.proofs.Math.Seq.{slice};
+ghost use Rattle.text.specs.Index.{index_of};
 ghost use Rattle.text.specs.Part as Part·;
 
 // Where a line or a field ends, whether its mark (LF, the tab) stands there, and where the next one begins.
@@ -37,7 +38,7 @@ fn until(text: &[u8], at: usize, to: usize, mark: u8) -> Part
     ensures { result ≡ Part·.until mark text.now at to }
 {
     let part = between(text, at, to);
-    let length = bytes::scan::find(part, 0, part.len(), mark);
+    let length = index(part, mark);
     let end = at + length;
     if length < part.len() {
         Part {
@@ -52,6 +53,18 @@ fn until(text: &[u8], at: usize, to: usize, mark: u8) -> Part
             closed: false,
         }
     }
+}
+
+// The place of the first mark; the text's length where there is none.
+fn index(text: &[u8], mark: u8) -> usize
+    ensures { result ≡ index_of mark text.now }
+{
+    for (i, x) in text.iter().enumerate() {
+        if *x == mark {
+            return i;
+        }
+    }
+    text.len()
 }
 
 // Whether two texts are the same.

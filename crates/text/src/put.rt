@@ -13,6 +13,7 @@ pub fn put(out: &mut [u8], at: usize, octets: &[u8]) -> usize
     if out.len() - at < octets.len() {
         return at;
     }
-    let n = bytes::copy(octets, &mut out[at..]);
-    at + n
+    let end = at + octets.len();
+    out[at..end].copy_from_slice(octets);
+    end
 }
