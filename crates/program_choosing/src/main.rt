@@ -2,29 +2,44 @@
 // configuration on standard input, whose links but the first OUT are open.
 #![tactic(auto)]
 
-use libc::{STDERR_FILENO, STDOUT_FILENO};
+ghost use Rattle.std.specs.Prelude.{◌≤◌, length};
+
 use plan_store::words_of;
 use route_choice::choose;
 use route_ways::for_users;
+use std::io;
+use std::io::Read;
+use std::rt::Env;
 use text_decimals::decimal::{Number, decimal};
 
-fn main() {
-    let count = number(2, 1000000000);
+fn main(rt: HostRuntime) -> io::Result<()> {
+    let count = number(&rt, 2, 1000000000);
     if count == 0 {
-        io::write_all(
-            STDERR_FILENO,
-            b"choosing: say how many of the links are out and how many messages come, with a configuration on standard input: choosing OUT COUNT\n",
+        return eprintln!(rt;
+            "choosing: say how many of the links are out and how many messages come, with a configuration on standard input: choosing OUT COUNT"
         );
-        return;
     }
-    let mut text = io::large_buffer();
-    let length = io::read_full(libc::STDIN_FILENO, &mut text);
+    let mut text = [0u8; 65536];
+    let length = read_full(&mut rt.reader(), &mut text);
     let made = plan_configuration::configure::configure(text::part::between(&text, 0, length));
     let plan = words_of(made.plan);
-    let sum = choose_all(&plan, number(1, 32), count);
-    io::write_all(STDOUT_FILENO, b"links, added up\t");
-    io::print_decimal(STDOUT_FILENO, sum);
-    io::write_all(STDOUT_FILENO, b"\n");
+    let sum = choose_all(&plan, number(&rt, 1, 32), count);
+    println!(rt; "links, added up\t{sum}")
+}
+
+// Reads until the buffer is full, the input ends or can't be read on, and answers how many octets came.
+fn read_full(input: &mut impl Read, buffer: &mut [u8]) -> usize
+    ensures { result ≤ length buffer.new }
+{
+    let mut done = 0;
+    while done < buffer.len() {
+        let got = input.read(&mut buffer[done..]).unwrap_or(0);
+        if got == 0 {
+            break;
+        }
+        done += got;
+    }
+    done
 }
 
 // The links of so many messages with every SLS in turn, added up. Each message that is sent is counted on its link, so that the
@@ -59,9 +74,9 @@ fn all_but(out: u64) -> [u32; 256] {
 }
 
 // The number that an argument says, 0 where it says none or one above the top.
-fn number(argument: usize, top: u64) -> u64 {
-    let mut word = io::buffer();
-    let length = os::arg(argument, &mut word);
+fn number(rt: &impl Env, argument: usize, top: u64) -> u64 {
+    let mut word = [0u8; 4096];
+    let length = rt.arg(argument, &mut word).unwrap_or(0);
     match decimal(&word[..length], top) {
         Number::Value(n) => n,
         Number::Wrong => 0,

@@ -2,7 +2,8 @@
 // it. `stdout` beside this was made by another encoder and taken apart by a third program (tests/dissect.py).
 #![tactic(auto)]
 
-use libc::STDOUT_FILENO;
+use std::io;
+use std::io::Write;
 use wire::header::Label;
 use wire_messages::management::Message;
 
@@ -13,13 +14,14 @@ const CODES: [u16; 16] = [
     0, 1, 2, 3, 127, 128, 255, 256, 300, 4096, 5461, 8191, 8192, 10922, 16382, 16383,
 ];
 
-fn main() {
+fn main(rt: HostRuntime) -> io::Result<()> {
     for n in 0..144 {
-        print_line(n / 16, n % 16);
+        print_line(&rt, n / 16, n % 16)?;
     }
+    Ok(())
 }
 
-fn print_line(kind: usize, k: usize) {
+fn print_line(rt: &impl Print, kind: usize, k: usize) -> io::Result<()> {
     let label = Label {
         dpc: CODES[k % 16],
         opc: CODES[15 - k % 16],
@@ -33,7 +35,7 @@ fn print_line(kind: usize, k: usize) {
     let at = put_meant(&mut line, kind, ni, label, meant);
     let at = text_hex::hex::put_hex(&mut line, at, text::part::between(&octets, 0, count));
     let at = text::put::put(&mut line, at, b"\n");
-    io::write_all(STDOUT_FILENO, text::part::between(&line, 0, at));
+    io::writer(rt).write_all(text::part::between(&line, 0, at))
 }
 
 // The words of a line before its octets, each with a tab behind it: NAME NI DPC OPC SLC FIELD.

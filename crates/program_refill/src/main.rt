@@ -3,10 +3,10 @@
 // written, and the user and the management slots that are free in the end.
 #![tactic(auto)]
 
-use libc::STDOUT_FILENO;
+use std::io;
 use std::num::{wrapping_add_u64, wrapping_sub_u64};
 
-fn main() {
+fn main(rt: HostRuntime) -> io::Result<()> {
     let mut spans = [0u16; 70];
     let mut rings = [0u8; 8960];
     let mut rows = [0u64; 2048];
@@ -16,36 +16,39 @@ fn main() {
     let mut round = 1;
     while round < 6 {
         arrival = show_round(
+            &rt,
             round,
             arrival,
             &mut spans,
             &mut rings,
             &mut rows,
             &mut octets,
-        );
+        )?;
         round += 1;
     }
+    Ok(())
 }
 
 // Fills and empties the store once, and answers the next arrival number.
 fn show_round(
+    rt: &impl Print,
     round: u64,
     arrival: u64,
     spans: &mut [u16; 70],
     rings: &mut [u8; 8960],
     rows: &mut [u64; 2048],
     octets: &mut [u8; 52416],
-) -> u64 {
+) -> io::Result<u64> {
     let users = fill_users(arrival, spans, rings, rows, octets);
     let all = fill_management(users, spans, rings, rows);
-    print_number(round, b"\t");
-    print_number(wrapping_sub_u64(users, arrival), b"\t");
-    print_number(wrapping_sub_u64(all, users), b"\t");
-    print_number(count_right(spans, rings, rows, octets), b"\t");
+    print_number(rt, round, "\t")?;
+    print_number(rt, wrapping_sub_u64(users, arrival), "\t")?;
+    print_number(rt, wrapping_sub_u64(all, users), "\t")?;
+    print_number(rt, count_right(spans, rings, rows, octets), "\t")?;
     empty_all(spans, rings);
-    print_number(queue_rings::ring::count(spans, 33) as u64, b"\t");
-    print_number(queue_rings::ring::count(spans, 34) as u64, b"\n");
-    all
+    print_number(rt, queue_rings::ring::count(spans, 33) as u64, "\t")?;
+    print_number(rt, queue_rings::ring::count(spans, 34) as u64, "\n")?;
+    Ok(all)
 }
 
 // User messages with the arrival numbers from one on, to the links in turn, until no slot is free; the next arrival number.
@@ -181,7 +184,6 @@ fn empty_all(spans: &mut [u16; 70], rings: &mut [u8; 8960]) {
     }
 }
 
-fn print_number(n: u64, end: &[u8]) {
-    io::print_decimal(STDOUT_FILENO, n);
-    io::write_all(STDOUT_FILENO, end);
+fn print_number(rt: &impl Print, n: u64, end: &str) -> io::Result<()> {
+    print!(rt; "{n}{end}")
 }

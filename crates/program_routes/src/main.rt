@@ -2,98 +2,98 @@
 // faulty line and that line's fault. With several configurations a line `file NAME` stands before each.
 #![tactic(auto)]
 
-use libc::{STDERR_FILENO, STDOUT_FILENO};
-use plan::data::Plan;
+ghost use Rattle.std.specs.Prelude.{◌≤◌, length};
 
-fn main() {
-    let count = os::arg_count();
-    if count < 2 {
-        io::write_all(
-            STDERR_FILENO,
-            b"routes: name one or more configuration files\n",
-        );
-        return;
+use plan::data::Plan;
+use std::env::FillError;
+use std::io::{Read, Write};
+use std::rt::{Env, Files};
+use std::{fs, io};
+
+fn main(rt: HostRuntime) -> io::Result<()> {
+    if !is_given(&rt, 1) {
+        return eprintln!(rt; "routes: name one or more configuration files");
     }
-    let mut i = 1;
-    while i < count {
-        show_file(i, 2 < count);
-        i += 1;
+    let several = is_given(&rt, 2);
+    for i in 1..usize::MAX {
+        if !is_given(&rt, i) {
+            break;
+        }
+        show_file(&rt, i, several)?;
     }
+    Ok(())
+}
+
+fn is_given(rt: &impl Env, i: usize) -> bool {
+    !matches!(rt.arg(i, &mut []), Err(FillError::NotPresent))
 }
 
 // The configuration that an argument names, after a line with its name where there are several.
-fn show_file(i: usize, several: bool) {
-    let mut path = io::buffer();
-    let length = os::arg(i, &mut path);
-    let fd = os::open_read(&path[..length]);
-    if fd < 0 {
-        os::fail(&path[..length]);
-        return;
-    }
-    let mut text = io::large_buffer();
-    let got = read_text(fd, &mut text);
-    libc::close(fd);
-    if got.failed {
-        os::fail(&path[..length]);
-        return;
-    }
-    if several {
-        io::write_all(STDOUT_FILENO, b"file ");
-        io::write_all(STDOUT_FILENO, &path[..length]);
-        io::write_all(STDOUT_FILENO, b"\n");
-    }
-    show(text::part::between(&text, 0, got.count));
-}
-
-// How many octets a file gave, or that it can't be read.
-#[derive(Clone, Copy)]
-struct Got {
-    failed: bool,
-    count: usize,
-}
-
-// A text longer than the buffer is cut, and longer than any configuration all the same.
-fn read_text(fd: i32, text: &mut [u8]) -> Got {
-    let got = libc::read(fd, text);
-    if got < 0 {
-        return Got {
-            failed: true,
-            count: 0,
-        };
-    }
-    let first = io::count(got, text);
-    let more = io::read_full(fd, &mut text[first..]);
-    Got {
-        failed: false,
-        count: first + more,
+fn show_file(
+    rt: &(impl Env + Files + Print + Eprint),
+    i: usize,
+    several: bool,
+) -> io::Result<()> {
+    let mut path = [0u8; 4096];
+    let length = rt.arg(i, &mut path).unwrap_or(0);
+    let name = str::from_utf8(&path[..length]).unwrap_or("");
+    let mut text = [0u8; 65536];
+    match read_text(rt, name, &mut text) {
+        Ok(count) => {
+            if several {
+                println!(rt; "file {name}")?;
+            }
+            show(rt, text::part::between(&text, 0, count))
+        }
+        Err(error) => eprintln!(rt; "{name}: {error}"),
     }
 }
 
-fn show(text: &[u8]) {
+// How many octets a file gave, or that it can't be read. A text longer than the buffer is cut, and longer than any configuration
+// all the same.
+fn read_text(rt: &impl Files, name: &str, text: &mut [u8]) -> io::Result<usize> {
+    let mut file = fs::open(rt, name)?;
+    let first = file.read(text)?;
+    let more = read_full(&mut file, &mut text[first..]);
+    Ok(first + more)
+}
+
+// Reads until the buffer is full, the file ends or can't be read on, and answers how many octets came.
+fn read_full(file: &mut impl Read, buffer: &mut [u8]) -> usize
+    ensures { result ≤ length buffer.new }
+{
+    let mut done = 0;
+    while done < buffer.len() {
+        let got = file.read(&mut buffer[done..]).unwrap_or(0);
+        if got == 0 {
+            break;
+        }
+        done += got;
+    }
+    done
+}
+
+fn show(rt: &impl Print, text: &[u8]) -> io::Result<()> {
     let made = plan_configuration::configure::configure(text);
     let plan = made.plan;
     if made.fault == 0 {
-        show_list(plan);
+        show_list(rt, plan)
     } else {
-        show_fault(made.line as u64, made.fault as u64);
+        show_fault(rt, made.line as u64, made.fault as u64)
     }
 }
 
-fn show_list(plan: Plan) {
+fn show_list(rt: &impl Print, plan: Plan) -> io::Result<()> {
     let links = all_open(plan);
     let marks = [0u32; 512];
     let mut out = [0u8; 4096];
     let words = plan_store::words_of(plan);
     let listed = route_list::list::route_list(&words, &links, &marks, &mut out);
-    io::write_all(STDOUT_FILENO, text::part::between(&out, 0, listed.octets));
+    io::writer(rt).write_all(text::part::between(&out, 0, listed.octets))
 }
 
-fn show_fault(line: u64, fault: u64) {
-    io::write_all(STDOUT_FILENO, b"config\t");
-    io::print_decimal(STDOUT_FILENO, line);
-    io::write_all(STDOUT_FILENO, b"\t");
-    io::print_decimal(STDOUT_FILENO, fault);
-    io::write_all(STDOUT_FILENO, b"\n");
+fn show_fault(rt: &impl Print, line: u64, fault: u64) -> io::Result<()> {
+    println!(rt; "config\t{line}\t{fault}")
 }
 
 // The states of the links, each that is given open.
