@@ -1,5 +1,5 @@
 // The record that the card driver keeps of one link: the last sent and the last acknowledged number. A send and an acknowledgement change it
-// where it lies; each is thin over a function by value, and C calls it.
+// where it lies; each is thin over a function by value, and C calls it by `library_card_c`.
 #![tactic(auto)]
 
 ghost use Rattle.std.specs.Prelude.{◌≡◌};
@@ -30,8 +30,7 @@ pub struct Acknowledged {
 }
 
 // The record of a link that has just come into service.
-#[unsafe(no_mangle)]
-pub extern "C" fn transfer_point_begun() -> Record
+pub fn transfer_point_begun() -> Record
     ensures { result ≡ Card.begun }
 {
     Record {
@@ -81,8 +80,7 @@ pub fn acknowledged_to(link: Record, b: u8) -> Acknowledged
 }
 
 // A message is sent: the record is brought up to date, and its number is given.
-#[unsafe(no_mangle)]
-pub extern "C" fn transfer_point_note_sent(link: &mut Record) -> u8
+pub fn transfer_point_note_sent(link: &mut Record) -> u8
     ensures value { result ≡ (Card.sent_one link.old).number }
     ensures link_after { link.new ≡ (Card.sent_one link.old).link }
 {
@@ -92,8 +90,7 @@ pub extern "C" fn transfer_point_note_sent(link: &mut Record) -> u8
 }
 
 // Messages up to b are acknowledged: the record is brought up to date if b is in range, and left as it was if not.
-#[unsafe(no_mangle)]
-pub extern "C" fn transfer_point_note_acknowledged(link: &mut Record, b: u8) -> bool
+pub fn transfer_point_note_acknowledged(link: &mut Record, b: u8) -> bool
     ensures value { result ≡ (Card.acknowledged_to link.old b).accepted }
     ensures link_after { link.new ≡ (Card.acknowledged_to link.old b).link }
 {
