@@ -5,6 +5,7 @@ ghost use Rattle.std.specs.Prelude.{◌≡◌};
 ghost use Rattle.reports.specs.Report as Report;
 
 // A record behind those written before; how many there are now. An area that is full stays as it is.
+#[tactic(auto, unfolding(crate::specs::Report::told))]
 pub fn report(reports: &mut [u64], count: usize, kind: u64, number: u64) -> usize
     ensures value { result ≡ (Report.told (Report.log reports.old count) kind number).count }
     ensures reports_after { reports.new ≡ (Report.told (Report.log reports.old count) kind number).area }
