@@ -1,6 +1,7 @@
 // A call and its answer, brought into the books; and what is told and drawn of a link that it has put out.
 use lookup::adjacent_of;
 use plan_words::read::code;
+use std::rt::Stdout;
 use text::part::{between, line};
 use tool_files::writer::{Writer, add};
 use trace_books::asked::Asked;
@@ -12,11 +13,11 @@ use trace_messages::told::NO_QUEUE;
 use trace_picture::draw::{Scene, draw};
 use trace_picture::file::Picture;
 
-// What is written: the lines with their books, and the picture.
-#[derive(Clone, Copy)]
+// What is written: the lines with their books, and the picture, where one is asked for.
+#[derive(Drop)]
 pub struct Outputs {
-    pub books: Books,
-    pub picture: Picture,
+    pub books: Books<Stdout>,
+    pub picture: Option<Picture>,
 }
 
 // A call and its answer: the books, and a link that it has put out.
@@ -53,7 +54,7 @@ pub fn take_call(
             by_message: 0 < count,
             sentences: asked.changeovers,
         };
-        next = take_ending(outputs, end, answer, order, held, area, drawing);
+        next = take_ending(next, end, answer, order, held, area, drawing);
     }
     let picture = next.picture;
     let books = take(next.books, asked, call, answer, rows, order, held, area);
@@ -100,7 +101,6 @@ fn take_ending(
     let call = end.call;
     let cause = end.cause;
     let mut books = outputs.books;
-    let mut picture = outputs.picture;
     let mut counts = [0u64; 36];
     count(answer, call.doubted, books.count, order, held, &mut counts);
     let mut out = [0u8; 2048];
@@ -108,16 +108,23 @@ fn take_ending(
     if end.sentences {
         books.lines = added(books.lines, area, &out, length);
     }
-    if 0 <= picture.file.fd {
-        let scene = scene_of(end, books.count);
-        let mut by = [0u8; 64];
-        let told = put_cause(&mut by, 0, cause);
-        let words = Words { length, told };
-        picture = drawn(
-            picture, drawing, scene, &out, &by, words, answer, &counts, order, held,
-        );
+    let Some(picture) = outputs.picture else {
+        return Outputs {
+            books,
+            picture: None,
+        };
+    };
+    let scene = scene_of(end, books.count);
+    let mut by = [0u8; 64];
+    let told = put_cause(&mut by, 0, cause);
+    let words = Words { length, told };
+    let picture = drawn(
+        picture, drawing, scene, &out, &by, words, answer, &counts, order, held,
+    );
+    Outputs {
+        books,
+        picture: Some(picture),
     }
-    Outputs { books, picture }
 }
 
 // How long a sentence is, and what put the link out.
@@ -159,7 +166,12 @@ fn drawn(
     )
 }
 
-fn added(lines: Writer, area: &mut [u8; 65536], out: &[u8; 2048], length: usize) -> Writer {
+fn added(
+    lines: Writer<Stdout>,
+    area: &mut [u8; 65536],
+    out: &[u8; 2048],
+    length: usize,
+) -> Writer<Stdout> {
     let next = add(lines, area, between(out, 0, length));
     add(next, area, b"\n")
 }

@@ -2,7 +2,7 @@
 use text::part::between;
 use text_decimals::decimal::{Number, decimal};
 use tool_files::arguments;
-use tool_files::arguments::{Arguments, NO_LINE, Word, complete, ends, next_word, unread};
+use tool_files::arguments::{Arguments, NO_LINE, Word, complete, ends, next_word, unread, word_at};
 use trace_books::asked::{ANY, Asked};
 
 #[derive(Clone, Copy)]
@@ -21,15 +21,15 @@ const NO_CODE: u64 = 8;
 const NO_CIRCUIT: u64 = 9;
 
 // Word after word, up to the first that is wrong or asks for help.
-pub fn read() -> Options {
+pub fn read(rt: &HostRuntime) -> Options {
     let mut options = nothing();
-    let mut turns = os::arg_count();
+    let mut turns = arguments::count(rt);
     while 0 < turns {
         turns -= 1;
-        if ends(options.arguments) {
+        if ends(rt, options.arguments) {
             break;
         }
-        options = with_word(options);
+        options = with_word(rt, options);
     }
     with(options, complete(options.arguments))
 }
@@ -62,8 +62,9 @@ fn wrong(options: Options, fault: u64, word: usize) -> Options {
 }
 
 // The next word: a file, an option, or an option and its value.
-fn with_word(options: Options) -> Options {
+fn with_word(rt: &HostRuntime, options: Options) -> Options {
     let word = next_word(
+        rt,
         options.arguments,
         b"--lost\n--twice\n--changeovers\n--picture\n--from\n--to\n--link\n--destination\n--circuit\n",
         3,
@@ -72,7 +73,7 @@ fn with_word(options: Options) -> Options {
     if word.value == 0 {
         return with_flag(next, word.option);
     }
-    with_value(next, word)
+    with_value(rt, next, word)
 }
 
 fn with_flag(options: Options, option: u64) -> Options {
@@ -88,14 +89,14 @@ fn with_flag(options: Options, option: u64) -> Options {
     next
 }
 
-fn with_value(options: Options, word: Word) -> Options {
+fn with_value(rt: &HostRuntime, options: Options, word: Word) -> Options {
     let mut next = options;
     if word.option == 4 {
         next.picture = word.value;
         return next;
     }
-    let mut area = io::buffer();
-    let length = os::arg(word.value, &mut area);
+    let mut area = [0u8; 4096];
+    let length = word_at(rt, word.value, &mut area);
     let Number::Value(number) = decimal(between(&area, 0, length), top_of(word.option)) else {
         return wrong(options, fault_of(word.option), word.value);
     };
@@ -135,8 +136,9 @@ fn with_number(asked: Asked, option: u64, number: u64) -> Asked {
 }
 
 // Says what is wrong, and what to do.
-pub fn advise(options: Options) {
+pub fn advise(rt: &HostRuntime, options: Options) {
     arguments::advise(
+        rt,
         b"trace",
         options.arguments,
         b": not a link; write 0 to 31\n\

@@ -1,29 +1,32 @@
 // The calls of a record, in order, one line after the other.
 use crate::call::{Outputs, take_call};
 use crate::options::Options;
-use libc::STDOUT_FILENO;
 use replay_refusals::{put_fault, put_unreadable};
 use replay_shift::run::{Place, View};
 use start::start;
 use std::num::wrapping_add_usize;
+use std::rt::Stdout;
+use std::{fs, io};
 use text::part::{between, line};
 use tool_files::complaint::complain_of;
 use tool_files::file::{File, next_piece, size};
 use tool_files::progress::Progress;
 use tool_files::status::{DONE, FAILED, REFUSED};
-use tool_files::writer::{Writer, add, flush, onto};
+use tool_files::writer::{Writer, add, flush, onto, write};
 use tool_files::{progress, target};
 use tool_shift::{beginning, run_text};
 use trace_books::asked::Asked;
 use trace_books::take::{Books, end};
+use trace_picture::file::Picture;
 use trace_rows::order::begin;
 
 // The node that a configuration makes, and the calls of a record on it, of which the first piece is read. Answers the status.
 pub fn run(
+    rt: &HostRuntime,
     options: Options,
     text: &[u8; 65536],
     length: usize,
-    record: File,
+    mut record: File,
     piece: &mut [u8; 65536],
 ) -> u8 {
     let configuration = between(text, 0, length);
@@ -43,13 +46,14 @@ pub fn run(
         configuration,
     );
     if 0 < made.fault {
-        return refuse(made.line, made.fault);
+        return refuse(rt, made.line, made.fault);
     }
-    let fd = opened(options.picture, configuration, piece, record);
-    if 0 < options.picture && fd < 0 {
+    let picture = opened(rt, options.picture, configuration, piece, &mut record);
+    if 0 < options.picture && picture.is_none() {
         return FAILED;
     }
     run_pieces(
+        rt,
         &plan,
         &mut links,
         &mut marks,
@@ -57,40 +61,53 @@ pub fn run(
         &mut rings,
         &mut arrivals,
         options.asked,
-        fd,
+        picture,
         record,
         piece,
     )
 }
 
 // The file of the picture, where one is asked for.
-fn opened(picture: usize, configuration: &[u8], piece: &[u8; 65536], record: File) -> i32 {
+fn opened(
+    rt: &HostRuntime,
+    picture: usize,
+    configuration: &[u8],
+    piece: &[u8; 65536],
+    record: &mut File,
+) -> Option<fs::File> {
     if picture == 0 {
-        return -1;
+        return None;
     }
     target::open(
+        rt,
         b"trace",
         picture,
         false,
         configuration,
         between(piece, 0, record.count),
-        size(record.fd),
+        size(&mut record.handle),
     )
 }
 
 // A configuration that is refused, alone in the output.
-fn refuse(line: usize, fault: u8) -> u8 {
+fn refuse(rt: &HostRuntime, line: usize, fault: u8) -> u8 {
     let mut out = [0u8; 64];
     let length = put_fault(&mut out, 0, line, fault);
-    if io::write_all(STDOUT_FILENO, between(&out, 0, length)) {
-        return REFUSED;
+    let last = write(onto(rt.stdout()), between(&out, 0, length));
+    told(rt, last, REFUSED)
+}
+
+// The status; another where standard output couldn't be written, which is told.
+fn told(rt: &HostRuntime, last: Writer<Stdout>, status: u8) -> u8 {
+    if let Some(error) = last.failed {
+        complain_of(rt, b"trace", b"standard output", error);
+        return FAILED;
     }
-    complain_of(b"trace", b"standard output");
-    FAILED
+    status
 }
 
 // Where a run stands: the next line, what is written, how far it is, how much of the piece is filled; its status, and whether nothing more is run.
-#[derive(Clone, Copy)]
+#[derive(Drop)]
 struct Turn {
     place: Place,
     outputs: Outputs,
@@ -102,6 +119,7 @@ struct Turn {
 
 // Turn after turn, up to the record's end or a line that can't be read.
 fn run_pieces(
+    rt: &HostRuntime,
     plan: &[u16; 1024],
     links: &mut [u32; 256],
     marks: &mut [u32; 512],
@@ -109,7 +127,7 @@ fn run_pieces(
     rings: &mut [u8; 8960],
     arrivals: &mut [u64; 1],
     asked: Asked,
-    fd: i32,
+    picture: Option<fs::File>,
     record: File,
     piece: &mut [u8; 65536],
 ) -> u8 {
@@ -122,11 +140,13 @@ fn run_pieces(
     let mut held = [0u64; 8192];
     let mut area = [0u8; 65536];
     let mut drawing = [0u8; 65536];
-    let mut turn = first_turn(fd, record, &mut order, &mut drawing);
+    let mut record = record;
+    let mut turn = first_turn(rt, picture, &mut record, &mut order, &mut drawing);
     let mut turns = u64::MAX;
     while 0 < turns {
         turns -= 1;
         turn = run_turn(
+            rt,
             plan,
             links,
             marks,
@@ -137,7 +157,7 @@ fn run_pieces(
             arrivals,
             asked,
             turn,
-            record.fd,
+            &mut record.handle,
             piece,
             &mut page,
             &mut known,
@@ -151,30 +171,45 @@ fn run_pieces(
             break;
         }
     }
-    finish(turn, asked, &order, &held, &mut area, &mut drawing)
+    finish(rt, turn, asked, &order, &held, &mut area, &mut drawing)
 }
 
 // Nothing is run yet: no message is held, and the picture has its head.
-fn first_turn(fd: i32, record: File, order: &mut [u8; 256], drawing: &mut [u8; 65536]) -> Turn {
+fn first_turn(
+    rt: &HostRuntime,
+    picture: Option<fs::File>,
+    record: &mut File,
+    order: &mut [u8; 256],
+    drawing: &mut [u8; 65536],
+) -> Turn {
     begin(order);
     Turn {
         place: beginning(),
         outputs: Outputs {
             books: Books {
                 count: 0,
-                lines: onto(STDOUT_FILENO),
+                lines: onto(rt.stdout()),
             },
-            picture: trace_picture::file::begin(fd, drawing),
+            picture: begun(picture, drawing),
         },
-        progress: progress::begin(size(record.fd)),
+        progress: progress::begin(rt, size(&mut record.handle)),
         filled: record.count,
         status: DONE,
         ended: false,
     }
 }
 
+// The picture with its head, where one is asked for.
+fn begun(picture: Option<fs::File>, drawing: &mut [u8; 65536]) -> Option<Picture> {
+    match picture {
+        Some(file) => Some(trace_picture::file::begin(file, drawing)),
+        None => None,
+    }
+}
+
 // The next line that ends in the piece, and its answer brought into the books; with none left, the next piece.
 fn run_turn(
+    rt: &HostRuntime,
     plan: &[u16; 1024],
     links: &mut [u32; 256],
     marks: &mut [u32; 512],
@@ -185,7 +220,7 @@ fn run_turn(
     arrivals: &mut [u64; 1],
     asked: Asked,
     turn: Turn,
-    fd: i32,
+    handle: &mut fs::File,
     piece: &mut [u8; 65536],
     page: &mut [u8; 262144],
     known: &mut [u32; 256],
@@ -212,8 +247,10 @@ fn run_turn(
         page,
     );
     if place.at <= before.at {
-        return read_on(turn, fd, piece);
+        return read_on(rt, turn, handle, piece);
     }
+    let progress = turn.progress;
+    let filled = turn.filled;
     let outputs = take_call(
         plan,
         links,
@@ -230,7 +267,7 @@ fn run_turn(
         area,
         drawing,
     );
-    taken(turn, place, outputs)
+    taken(place, outputs, progress, filled)
 }
 
 // A trace looks at every answer, with its fates.
@@ -244,36 +281,34 @@ fn all() -> View {
 }
 
 // A line was run, and its answer taken.
-fn taken(turn: Turn, after: Place, outputs: Outputs) -> Turn {
+fn taken(after: Place, outputs: Outputs, progress: Progress, filled: usize) -> Turn {
     let mut place = after;
     place.pending = 0;
-    let progress = turn.progress;
-    let status = status_of(place.readable, outputs);
+    let status = status_of(place.readable, &outputs);
     Turn {
         place,
         outputs,
         progress,
-        filled: turn.filled,
+        filled,
         status,
         ended: status != DONE,
     }
 }
 
 // What the piece cuts goes to the front of the next; with no next one the run has ended.
-fn read_on(turn: Turn, fd: i32, piece: &mut [u8; 65536]) -> Turn {
+fn read_on(rt: &HostRuntime, turn: Turn, handle: &mut fs::File, piece: &mut [u8; 65536]) -> Turn {
     let mut place = turn.place;
-    let next = next_piece(fd, piece, place.at, turn.filled);
+    let next = next_piece(handle, piece, place.at, turn.filled);
     place.at = 0;
-    let outputs = turn.outputs;
-    let progress = progress::on(turn.progress, b"trace", next.count);
+    let progress = progress::on(rt, turn.progress, b"trace", next.count);
     let ended = next.count == 0;
     let mut status = DONE;
     if ended {
-        status = status_at_end(progress, next.failed, next.rest);
+        status = status_at_end(rt, progress, next.failed, next.rest);
     }
     Turn {
         place,
-        outputs,
+        outputs: turn.outputs,
         progress,
         filled: wrapping_add_usize(next.rest, next.count),
         status,
@@ -287,8 +322,8 @@ fn next_line(piece: &[u8; 65536], length: usize, at: usize) -> usize {
     part.next
 }
 
-fn status_of(readable: bool, outputs: Outputs) -> u8 {
-    if outputs.books.lines.failed || outputs.picture.file.failed {
+fn status_of(readable: bool, outputs: &Outputs) -> u8 {
+    if outputs.books.lines.failed.is_some() || undrawn(&outputs.picture) {
         return FAILED;
     }
     if readable {
@@ -297,11 +332,24 @@ fn status_of(readable: bool, outputs: Outputs) -> u8 {
     REFUSED
 }
 
+// Whether a picture is asked for and couldn't be written.
+fn undrawn(picture: &Option<Picture>) -> bool {
+    match picture {
+        Some(picture) => picture.file.failed.is_some(),
+        None => false,
+    }
+}
+
 // The record has no more octets: those behind its last LF are no line.
-fn status_at_end(progress: Progress, failed: bool, rest: usize) -> u8 {
-    if failed {
-        progress::clear(progress);
-        complain_of(b"trace", b"the record");
+fn status_at_end(
+    rt: &HostRuntime,
+    progress: Progress,
+    failed: Option<io::Error>,
+    rest: usize,
+) -> u8 {
+    if let Some(error) = failed {
+        progress::clear(rt, progress);
+        complain_of(rt, b"trace", b"the record", error);
         return FAILED;
     }
     if rest == 0 {
@@ -312,6 +360,7 @@ fn status_at_end(progress: Progress, failed: bool, rest: usize) -> u8 {
 
 // The run has ended, and the picture with it: one that couldn't be written has told so. Answers the status.
 fn finish(
+    rt: &HostRuntime,
     turn: Turn,
     asked: Asked,
     order: &[u8; 256],
@@ -319,10 +368,11 @@ fn finish(
     area: &mut [u8; 65536],
     drawing: &mut [u8; 65536],
 ) -> u8 {
-    progress::clear(turn.progress);
+    progress::clear(rt, turn.progress);
     let place = turn.place;
     let outputs = turn.outputs;
     let status = finish_lines(
+        rt,
         turn.status,
         place.number,
         asked,
@@ -331,43 +381,53 @@ fn finish(
         held,
         area,
     );
-    if trace_picture::file::end(outputs.picture, drawing) {
+    if drawn(rt, outputs.picture, drawing) {
         return status;
     }
     FAILED
 }
 
+// Whether the picture, where one is asked for, could be ended.
+fn drawn(rt: &HostRuntime, picture: Option<Picture>, drawing: &mut [u8; 65536]) -> bool {
+    match picture {
+        Some(picture) => trace_picture::file::end(rt, picture, drawing),
+        None => true,
+    }
+}
+
 // The messages that are still held, and the line that couldn't be read. Answers the status.
 fn finish_lines(
+    rt: &HostRuntime,
     status: u8,
     number: u64,
     asked: Asked,
-    books: Books,
+    books: Books<Stdout>,
     order: &[u8; 256],
     held: &[u64; 8192],
     area: &mut [u8; 65536],
 ) -> u8 {
-    let mut lines = books.lines;
-    if status != FAILED {
-        lines = end(books, asked, order, held, area);
-    }
+    let mut lines = if status == FAILED {
+        books.lines
+    } else {
+        end(books, asked, order, held, area)
+    };
     if status == REFUSED {
         lines = with_refused(lines, area, number);
     }
-    let last = flush(lines, area);
-    if last.failed {
-        complain_of(b"trace", b"standard output");
-        return FAILED;
-    }
-    status
+    told(rt, flush(lines, area), status)
 }
 
-fn with_refused(lines: Writer, area: &mut [u8; 65536], number: u64) -> Writer {
+fn with_refused(lines: Writer<Stdout>, area: &mut [u8; 65536], number: u64) -> Writer<Stdout> {
     let mut out = [0u8; 64];
     let length = put_unreadable(&mut out, 0, number);
     refused(lines, area, &out, length)
 }
 
-fn refused(lines: Writer, area: &mut [u8; 65536], out: &[u8; 64], length: usize) -> Writer {
+fn refused(
+    lines: Writer<Stdout>,
+    area: &mut [u8; 65536],
+    out: &[u8; 64],
+    length: usize,
+) -> Writer<Stdout> {
     add(lines, area, between(out, 0, length))
 }

@@ -2,6 +2,7 @@
 use crate::asked::{Asked, shows};
 use crate::brought::made;
 use area_slots::load_slot;
+use std::io::Write;
 use std::num::wrapping_add_u64;
 use text::part::{between, line};
 use tool_files::writer::{Writer, add};
@@ -13,10 +14,10 @@ use trace_rows::held::{Message, Move, load, store, store_move};
 use trace_rows::order::{place_of, row_at, set_free};
 
 // How many messages are held, and what is written.
-#[derive(Clone, Copy)]
-pub struct Books {
+#[derive(Drop)]
+pub struct Books<W> {
     pub count: usize,
-    pub lines: Writer,
+    pub lines: Writer<W>,
 }
 
 // A call: its line's number, the message that it brings, the changeover number in that, our code, and the link that it leaves in doubt.
@@ -30,8 +31,8 @@ pub struct Call {
 }
 
 // The answer to a call, line by line.
-pub fn take(
-    books: Books,
+pub fn take<W: Write>(
+    books: Books<W>,
     asked: Asked,
     call: Call,
     answer: &[u8],
@@ -39,7 +40,7 @@ pub fn take(
     order: &mut [u8; 256],
     held: &mut [u64; 8192],
     area: &mut [u8; 65536],
-) -> Books {
+) -> Books<W> {
     let mut next = books;
     let mut at = 0;
     let mut turns = answer.len();
@@ -56,8 +57,8 @@ pub fn take(
     next
 }
 
-fn take_line(
-    books: Books,
+fn take_line<W: Write>(
+    books: Books<W>,
     asked: Asked,
     call: Call,
     told: Told,
@@ -65,7 +66,7 @@ fn take_line(
     order: &mut [u8; 256],
     held: &mut [u64; 8192],
     area: &mut [u8; 65536],
-) -> Books {
+) -> Books<W> {
     if told.word == 0 {
         return books;
     }
@@ -73,9 +74,10 @@ fn take_line(
         let message = queued(asked, call, told, slots);
         return kept(books, message, order, held);
     }
-    let place = place_of(order, held, books.count, told.arrival);
+    let count = books.count;
+    let place = place_of(order, held, count, told.arrival);
     let row = row_at(order, place);
-    if books.count <= place {
+    if count <= place {
         return books;
     }
     if told.word == SENT || told.word == MOVED {
@@ -83,9 +85,9 @@ fn take_line(
         return books;
     }
     let lines = written(books.lines, asked, ending_of(call, told), held, row, area);
-    set_free(order, books.count, place);
+    set_free(order, count, place);
     Books {
-        count: books.count - 1,
+        count: count - 1,
         lines,
     }
 }
@@ -117,16 +119,21 @@ fn slot_of(slots: &[u64; 2048], arrival: u64) -> u8 {
 }
 
 // A message more is held, in a row that was free.
-fn kept(books: Books, message: Message, order: &[u8; 256], held: &mut [u64; 8192]) -> Books {
-    if 256 <= books.count {
+fn kept<W>(
+    books: Books<W>,
+    message: Message,
+    order: &[u8; 256],
+    held: &mut [u64; 8192],
+) -> Books<W> {
+    let count = books.count;
+    if 256 <= count {
         return books;
     }
-    let row = row_at(order, books.count);
+    let row = row_at(order, count);
     store(held, row, message);
-    let lines = books.lines;
     Books {
-        count: books.count + 1,
-        lines,
+        count: count + 1,
+        lines: books.lines,
     }
 }
 
@@ -171,14 +178,14 @@ fn ending_of(call: Call, told: Told) -> Ending {
 }
 
 // The line of a message, where it is shown.
-fn written(
-    lines: Writer,
+fn written<W: Write>(
+    lines: Writer<W>,
     asked: Asked,
     ending: Ending,
     held: &[u64; 8192],
     row: u8,
     area: &mut [u8; 65536],
-) -> Writer {
+) -> Writer<W> {
     let message = load(held, row);
     if !shows(asked, message, lost(message, ending)) {
         return lines;
@@ -188,7 +195,12 @@ fn written(
     added(lines, area, &out, length)
 }
 
-fn added(lines: Writer, area: &mut [u8; 65536], out: &[u8; 1024], length: usize) -> Writer {
+fn added<W: Write>(
+    lines: Writer<W>,
+    area: &mut [u8; 65536],
+    out: &[u8; 1024],
+    length: usize,
+) -> Writer<W> {
     add(lines, area, between(out, 0, length))
 }
 
@@ -203,16 +215,17 @@ fn lost(message: Message, ending: Ending) -> bool {
 }
 
 // The run has ended: the messages that are still held.
-pub fn end(
-    books: Books,
+pub fn end<W: Write>(
+    books: Books<W>,
     asked: Asked,
     order: &[u8; 256],
     held: &[u64; 8192],
     area: &mut [u8; 65536],
-) -> Writer {
+) -> Writer<W> {
+    let count = books.count;
     let mut lines = books.lines;
     let mut place = 0;
-    while place < books.count {
+    while place < count {
         lines = written(lines, asked, Ending::Held, held, row_at(order, place), area);
         place += 1;
     }

@@ -55,7 +55,10 @@ CGB.CGU.CGBACGUA................\
 ....GRA.........CPG.....UCICCFN.";
     let from = 4 * (octet as usize);
     let name = between(names, from, from + 4);
-    let length = bytes::scan::find(name, 0, name.len(), b'.');
+    let length = name
+        .iter()
+        .position(|letter| *letter == b'.')
+        .unwrap_or(name.len());
     if length == 0 {
         return put_hex(out, at, &[octet]);
     }

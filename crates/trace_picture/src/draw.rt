@@ -3,6 +3,7 @@ use crate::file::Picture;
 use crate::groups::{Group, going, leaving, limited, link_of, none};
 use crate::rows::{Row, put_group, put_lines};
 use crate::shapes::{OURS, put_end, put_line, put_text, words_at, x_of};
+use std::fs::File;
 use std::num::wrapping_add_u64;
 use text::part::{between, line};
 use text::put::put;
@@ -97,7 +98,12 @@ fn with_title(picture: Picture, area: &mut [u8; 65536], sentence: &[u8], words: 
     }
 }
 
-fn added(file: Writer, area: &mut [u8; 65536], out: &[u8; 2048], length: usize) -> Writer {
+fn added(
+    file: Writer<File>,
+    area: &mut [u8; 65536],
+    out: &[u8; 2048],
+    length: usize,
+) -> Writer<File> {
     add(file, area, between(out, 0, length))
 }
 
@@ -123,13 +129,13 @@ fn with_heads(
 }
 
 fn with_head(
-    file: Writer,
+    file: Writer<File>,
     area: &mut [u8; 65536],
     word: &[u8],
     number: u64,
     x: u64,
     y: u64,
-) -> Writer {
+) -> Writer<File> {
     let mut out = [0u8; 2048];
     let length = put_head(&mut out, word, number, x, y);
     added(file, area, &out, length)
@@ -142,7 +148,12 @@ fn put_head(out: &mut [u8], word: &[u8], number: u64, x: u64, y: u64) -> usize {
     put_end(out, at)
 }
 
-fn with_goals(file: Writer, area: &mut [u8; 65536], counts: &[u64; 36], y: u64) -> Writer {
+fn with_goals(
+    file: Writer<File>,
+    area: &mut [u8; 65536],
+    counts: &[u64; 36],
+    y: u64,
+) -> Writer<File> {
     let mut next = file;
     let mut link = 0;
     while link < 32 {
@@ -245,13 +256,13 @@ fn with_group(
         load(held, group.first),
         load(held, group.last),
     );
-    below(picture, added(picture.file, area, &out, length))
+    below(picture, area, &out, length)
 }
 
-// A row was drawn: the next stands below.
-fn below(picture: Picture, file: Writer) -> Picture {
+// A row is drawn: the next stands below.
+fn below(picture: Picture, area: &mut [u8; 65536], out: &[u8; 2048], length: usize) -> Picture {
     Picture {
-        file,
+        file: added(picture.file, area, out, length),
         y: wrapping_add_u64(picture.y, STEP),
         wide: picture.wide,
     }
@@ -263,7 +274,7 @@ fn with_failure(picture: Picture, area: &mut [u8; 65536], scene: Scene, columns:
     }
     let mut out = [0u8; 2048];
     let length = put_failure(&mut out, scene, picture.y, columns);
-    below(picture, added(picture.file, area, &out, length))
+    below(picture, area, &out, length)
 }
 
 fn put_failure(out: &mut [u8], scene: Scene, y: u64, columns: u64) -> usize {
@@ -285,7 +296,7 @@ fn with_cause(
 ) -> Picture {
     let mut out = [0u8; 2048];
     let length = put_cause(&mut out, scene, picture.y, columns, cause);
-    below(picture, added(picture.file, area, &out, length))
+    below(picture, area, &out, length)
 }
 
 fn put_cause(out: &mut [u8], scene: Scene, y: u64, columns: u64, cause: &[u8]) -> usize {
@@ -305,12 +316,12 @@ fn put_told(out: &mut [u8], at: usize, by_message: bool, y: u64, columns: u64) -
 
 // The vertical lines, our point's and those of the columns.
 fn with_verticals(
-    file: Writer,
+    file: Writer<File>,
     area: &mut [u8; 65536],
     columns: u64,
     top: u64,
     bottom: u64,
-) -> Writer {
+) -> Writer<File> {
     let mut next = with_vertical(file, area, OURS, top, bottom);
     let mut column = 0;
     while column < 34 {
@@ -322,7 +333,13 @@ fn with_verticals(
     next
 }
 
-fn with_vertical(file: Writer, area: &mut [u8; 65536], x: u64, top: u64, bottom: u64) -> Writer {
+fn with_vertical(
+    file: Writer<File>,
+    area: &mut [u8; 65536],
+    x: u64,
+    top: u64,
+    bottom: u64,
+) -> Writer<File> {
     let mut out = [0u8; 2048];
     let length = put_line(&mut out, 0, b"v", x, wrapping_add_u64(top, 8), x, bottom);
     added(file, area, &out, length)

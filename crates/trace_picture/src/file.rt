@@ -1,5 +1,9 @@
 // The file of a drawing. Its size is known only at its end, and stands in a fixed place at its head.
+use std::fs::File;
+use std::io;
+use std::io::{Error, ErrorKind};
 use std::num::wrapping_add_u64;
+use std::os::unix::fs::FileExt;
 use text::part::between;
 use text::put::put;
 use text_decimals::decimal::put_decimal;
@@ -7,9 +11,9 @@ use tool_files::complaint::complain_of;
 use tool_files::writer::{Writer, add, closed, flush, onto};
 
 // The file, how far down it is drawn, and how wide.
-#[derive(Clone, Copy)]
+#[derive(Drop)]
 pub struct Picture {
-    pub file: Writer,
+    pub file: Writer<File>,
     pub y: u64,
     pub wide: u64,
 }
@@ -17,23 +21,21 @@ pub struct Picture {
 // Where the first ladder begins.
 const TOP: u64 = 40;
 
-// A drawing in a file that is empty, which begins with what its arrows mean; with a negative one nothing is drawn.
-pub fn begin(fd: i32, area: &mut [u8; 65536]) -> Picture {
-    let mut file = onto(fd);
-    if 0 <= fd {
-        file = with_styles(file, area);
-        file = with_points(file, area);
-        file = with_legend(file, area);
-    }
+// A drawing in a file that is empty, which begins with what its arrows mean.
+pub fn begin(file: File, area: &mut [u8; 65536]) -> Picture {
+    let mut next = onto(file);
+    next = with_styles(next, area);
+    next = with_points(next, area);
+    next = with_legend(next, area);
     Picture {
-        file,
+        file: next,
         y: TOP,
         wide: 1000,
     }
 }
 
 // The head, and how texts and arrows look.
-fn with_styles(file: Writer, area: &mut [u8; 65536]) -> Writer {
+fn with_styles(file: Writer<File>, area: &mut [u8; 65536]) -> Writer<File> {
     add(
         file,
         area,
@@ -59,7 +61,7 @@ line { stroke-width: 2 }
 }
 
 // The points of the arrows.
-fn with_points(file: Writer, area: &mut [u8; 65536]) -> Writer {
+fn with_points(file: Writer<File>, area: &mut [u8; 65536]) -> Writer<File> {
     add(
         file,
         area,
@@ -82,7 +84,7 @@ fn with_points(file: Writer, area: &mut [u8; 65536]) -> Writer {
 }
 
 // What the arrows mean, in a line at the top.
-fn with_legend(file: Writer, area: &mut [u8; 65536]) -> Writer {
+fn with_legend(file: Writer<File>, area: &mut [u8; 65536]) -> Writer<File> {
     add(
         file,
         area,
@@ -97,10 +99,9 @@ fn with_legend(file: Writer, area: &mut [u8; 65536]) -> Writer {
 }
 
 // The drawing ends, and its size is put in its place. Answers whether all could be written; what couldn't is told.
-pub fn end(picture: Picture, area: &mut [u8; 65536]) -> bool {
-    if picture.file.fd < 0 {
-        return true;
-    }
+pub fn end(rt: &HostRuntime, picture: Picture, area: &mut [u8; 65536]) -> bool {
+    let wide = picture.wide;
+    let high = wrapping_add_u64(picture.y, 60);
     let mut file = picture.file;
     if picture.y == TOP {
         file = add(
@@ -111,27 +112,29 @@ pub fn end(picture: Picture, area: &mut [u8; 65536]) -> bool {
     }
     file = add(file, area, b"</svg>\n");
     file = flush(file, area);
-    let sized = put_size(file.fd, picture.wide, wrapping_add_u64(picture.y, 60));
+    let sized = put_size(&file.file, wide, high);
     file = closed(file);
-    if file.failed || !sized {
-        complain_of(b"trace", b"the picture");
-        return false;
+    match file.failed.or(sized.err()) {
+        Some(error) => {
+            complain_of(rt, b"trace", b"the picture", error);
+            false
+        }
+        None => true,
     }
-    true
 }
 
 // Width and height, in ten digits each, behind the 39 octets that a drawing begins with.
-fn put_size(fd: i32, wide: u64, high: u64) -> bool {
+fn put_size(file: &File, wide: u64, high: u64) -> io::Result<()> {
     let mut out = [0u8; 64];
     let at = put(&mut out, 0, b" width=\"");
     let at = put_ten(&mut out, at, wide);
     let at = put(&mut out, at, b"\" height=\"");
     let at = put_ten(&mut out, at, high);
-    write_at(fd, &out, at)
+    write_at(file, &out, at)
 }
 
-fn write_at(fd: i32, out: &[u8; 64], length: usize) -> bool {
-    0 < libc::pwrite(fd, between(out, 0, length), 39)
+fn write_at(file: &File, out: &[u8; 64], length: usize) -> io::Result<()> {
+    file.write_all_at(between(out, 0, length), 39)
 }
 
 fn put_ten(out: &mut [u8], at: usize, number: u64) -> usize {
