@@ -1,6 +1,8 @@
 // The arguments of a program that reads a configuration and a record: the places of both files, and the first word that is wrong.
 use crate::complaint::complain;
+use std::env::FillError;
 use std::num::{wrapping_add_usize, wrapping_sub_u64};
+use std::rt::Env;
 use text::part::{between, same};
 use tool_words::lines::{number_of, numbered};
 
@@ -57,9 +59,29 @@ pub fn unread() -> Arguments {
     }
 }
 
+// How many words there are, the first of which is the program's name.
+pub fn count(rt: &HostRuntime) -> usize {
+    for at in 0..usize::MAX {
+        if is_missing(rt, at) {
+            return at;
+        }
+    }
+    usize::MAX
+}
+
+fn is_missing(rt: &HostRuntime, at: usize) -> bool {
+    let mut area = [0u8; 4096];
+    matches!(rt.arg(at, &mut area), Err(FillError::NotPresent))
+}
+
+// The word at a place, put into an area; how long it is, 0 where it isn't there or is too long.
+pub fn word_at(rt: &HostRuntime, at: usize, area: &mut [u8; 4096]) -> usize {
+    rt.arg(at, area).unwrap_or(0)
+}
+
 // Whether no word is read any more: none is left, one is wrong, or one asks for help.
-pub fn ends(arguments: Arguments) -> bool {
-    os::arg_count() <= arguments.next || settled(arguments)
+pub fn ends(rt: &HostRuntime, arguments: Arguments) -> bool {
+    is_missing(rt, arguments.next) || settled(arguments)
 }
 
 // Whether the words behind don't count: one is wrong, or asks for help.
@@ -76,10 +98,10 @@ pub fn wrong(arguments: Arguments, fault: u64, word: usize) -> Arguments {
 }
 
 // The next word: a file, or an option. The program names its own, a line for each: first so many that stand alone, then those with a value behind them.
-pub fn next_word(arguments: Arguments, names: &[u8], flags: u64) -> Word {
-    let mut area = io::buffer();
+pub fn next_word(rt: &HostRuntime, arguments: Arguments, names: &[u8], flags: u64) -> Word {
+    let mut area = [0u8; 4096];
     let at = arguments.next;
-    let length = os::arg(at, &mut area);
+    let length = word_at(rt, at, &mut area);
     let word = between(&area, 0, length);
     if arguments.ended || !dashed(word) {
         return no_option(with_file(arguments));
@@ -92,7 +114,7 @@ pub fn next_word(arguments: Arguments, names: &[u8], flags: u64) -> Word {
         return no_option(wrong(arguments, UNKNOWN, at));
     }
     if flags < option {
-        return with_value(arguments, option);
+        return with_value(rt, arguments, option);
     }
     Word {
         arguments: past(arguments, 1),
@@ -153,12 +175,12 @@ fn with_common(arguments: Arguments, length: usize) -> Arguments {
 }
 
 // The next word is an option with its value behind it.
-fn with_value(arguments: Arguments, option: u64) -> Word {
-    let mut area = io::buffer();
+fn with_value(rt: &HostRuntime, arguments: Arguments, option: u64) -> Word {
+    let mut area = [0u8; 4096];
     let at = arguments.next;
     let behind = past(arguments, 1);
     let place = behind.next;
-    let length = os::arg(place, &mut area);
+    let length = word_at(rt, place, &mut area);
     if length == 0 || dashed(between(&area, 0, length)) {
         return no_option(wrong(arguments, VALUE_MISSING, at));
     }
@@ -185,10 +207,10 @@ pub fn complete(arguments: Arguments) -> Arguments {
 }
 
 // Says what is wrong, and what to do; of the program's own faults, by its list.
-pub fn advise(program: &[u8], arguments: Arguments, own: &[u8]) {
+pub fn advise(rt: &HostRuntime, program: &[u8], arguments: Arguments, own: &[u8]) {
     if OWN <= arguments.fault {
         let number = wrapping_sub_u64(arguments.fault, 6);
-        name(program, arguments.word, numbered(own, number));
+        name(rt, program, arguments.word, numbered(own, number));
         return;
     }
     let advice = numbered(
@@ -200,16 +222,16 @@ pub fn advise(program: &[u8], arguments: Arguments, own: &[u8]) {
 no files are named; name a configuration and a record, or ask --help\n",
         arguments.fault,
     );
-    name(program, arguments.word, advice);
+    name(rt, program, arguments.word, advice);
 }
 
 // The word at a place, and what to do about it.
-fn name(program: &[u8], word: usize, advice: &[u8]) {
+fn name(rt: &HostRuntime, program: &[u8], word: usize, advice: &[u8]) {
     if word == 0 {
-        complain(program, b"", advice);
+        complain(rt, program, b"", advice);
         return;
     }
-    let mut area = io::buffer();
-    let length = os::arg(word, &mut area);
-    complain(program, &area[..length], advice);
+    let mut area = [0u8; 4096];
+    let length = word_at(rt, word, &mut area);
+    complain(rt, program, between(&area, 0, length), advice);
 }

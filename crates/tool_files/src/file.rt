@@ -1,118 +1,118 @@
 // Files named by arguments and read in large pieces. What can't be opened or read is told.
+use crate::arguments::word_at;
 use crate::complaint::complain_of;
-use libc::{SEEK_CUR, SEEK_END, SEEK_SET};
+use std::io::{ErrorKind, Read, Seek, SeekFrom};
 use std::num::wrapping_add_usize;
+use std::{fs, io, str};
+use text::part::between;
 
-// A file and how many octets of it came, or that it failed.
-#[derive(Clone, Copy)]
+// An open file and how many octets of it came.
+#[derive(Drop)]
 pub struct File {
-    pub failed: bool,
-    pub fd: i32,
+    pub handle: fs::File,
     pub count: usize,
 }
 
-// The file that an argument names, and its first piece.
-pub fn begin(program: &[u8], argument: usize, area: &mut [u8]) -> File {
-    let mut path = io::buffer();
-    let length = os::arg(argument, &mut path);
-    let fd = os::open_read(&path[..length]);
-    if fd < 0 {
-        complain_of(program, &path[..length]);
-        return failure(fd);
+// The file that an argument names, and its first piece; none where that failed.
+pub fn begin(rt: &HostRuntime, program: &[u8], argument: usize, area: &mut [u8]) -> Option<File> {
+    let mut path = [0u8; 4096];
+    let length = word_at(rt, argument, &mut path);
+    let path = between(&path, 0, length);
+    match first(rt, path, area) {
+        Ok(file) => Some(file),
+        Err(error) => {
+            complain_of(rt, program, path, error);
+            None
+        }
     }
-    let file = more(fd, area, 0);
-    if file.failed {
-        complain_of(program, &path[..length]);
-    }
-    file
 }
 
-// All of the file that an argument names, as far as the area holds it.
-pub fn read(program: &[u8], argument: usize, area: &mut [u8; 65536]) -> File {
-    let first = begin(program, argument, area);
-    if first.failed {
-        return first;
+// A file by its name, and its first piece.
+fn first(rt: &HostRuntime, path: &[u8], area: &mut [u8]) -> io::Result<File> {
+    let mut handle = fs::open(rt, name_of(path)?)?;
+    let count = more(&mut handle, area, 0)?;
+    Ok(File { handle, count })
+}
+
+// The system's files have names of any octets, those that can be opened a text.
+pub fn name_of(path: &[u8]) -> io::Result<&str> {
+    match str::from_utf8(path) {
+        Ok(name) => Ok(name),
+        Err(_) => Err(io::Error::new(ErrorKind::InvalidFilename, "No name in UTF-8")),
     }
-    let file = rest(first, area);
-    if file.failed {
-        complain_of(program, b"the configuration");
+}
+
+// All of the file that an argument names, as far as the area holds it: how many octets; none where that failed.
+pub fn read(
+    rt: &HostRuntime,
+    program: &[u8],
+    argument: usize,
+    area: &mut [u8; 65536],
+) -> Option<usize> {
+    let mut file = begin(rt, program, argument, area)?;
+    match rest(&mut file, area) {
+        Ok(()) => Some(file.count),
+        Err(error) => {
+            complain_of(rt, program, b"the configuration", error);
+            None
+        }
     }
-    libc::close(file.fd);
-    file
 }
 
 // What is behind a first piece.
-pub fn rest(first: File, area: &mut [u8; 65536]) -> File {
-    let mut file = first;
-    let mut turns = 65536usize;
-    while 0 < turns {
-        turns -= 1;
-        let next = more(file.fd, area, file.count);
-        if next.count == 0 {
-            file.failed = next.failed;
+pub fn rest(file: &mut File, area: &mut [u8; 65536]) -> io::Result<()> {
+    for _ in 0..65536 {
+        let count = more(&mut file.handle, area, file.count)?;
+        if count == 0 {
             break;
         }
-        file.count = wrapping_add_usize(file.count, next.count);
+        file.count = wrapping_add_usize(file.count, count);
     }
-    file
+    Ok(())
 }
 
 // The next piece of a file, from a place of the area on.
-fn more(fd: i32, area: &mut [u8], from: usize) -> File {
+fn more(handle: &mut fs::File, area: &mut [u8], from: usize) -> io::Result<usize> {
     if area.len() < from {
-        return failure(fd);
+        return Err(io::Error::from(ErrorKind::InvalidInput));
     }
-    let rest = &mut area[from..];
-    let got = libc::read(fd, rest);
-    if got < 0 {
-        return failure(fd);
-    }
-    File {
-        failed: false,
-        fd,
-        count: io::count(got, rest),
-    }
-}
-
-fn failure(fd: i32) -> File {
-    File {
-        failed: true,
-        fd,
-        count: 0,
-    }
+    handle.read(&mut area[from..])
 }
 
 // How many octets a file has; 0 where that isn't known, as of a pipe.
-pub fn size(fd: i32) -> u64 {
-    let at = libc::lseek(fd, 0, SEEK_CUR);
-    let end = libc::lseek(fd, 0, SEEK_END);
-    if at < 0 || end < 0 {
+pub fn size(handle: &mut fs::File) -> u64 {
+    let Ok(at) = handle.stream_position() else {
         return 0;
-    }
-    libc::lseek(fd, at, SEEK_SET);
-    plain(end)
+    };
+    let Ok(end) = handle.seek(SeekFrom::End(0)) else {
+        return 0;
+    };
+    let _ = handle.seek(SeekFrom::Start(at));
+    end
 }
 
-fn plain(number: i64) -> u64 {
-    if number > 0 { number as u64 } else { 0 }
-}
-
-// What was left of a piece, and how many octets came behind it, or that reading failed.
+// What was left of a piece, and how many octets came behind it, or why reading failed.
 #[derive(Clone, Copy)]
 pub struct Piece {
-    pub failed: bool,
+    pub failed: Option<io::Error>,
     pub rest: usize,
     pub count: usize,
 }
 
 // The octets of a piece from a place up to another go to its front, and the next of the file stand behind them.
-pub fn next_piece(fd: i32, piece: &mut [u8; 65536], from: usize, to: usize) -> Piece {
+pub fn next_piece(handle: &mut fs::File, piece: &mut [u8; 65536], from: usize, to: usize) -> Piece {
     let rest = move_to_front(piece, from, to);
-    let next = more(fd, piece, rest);
-    Piece {
-        failed: next.failed,
-        rest,
-        count: next.count,
+    match more(handle, piece, rest) {
+        Ok(count) => Piece {
+            failed: None,
+            rest,
+            count,
+        },
+        Err(error) => Piece {
+            failed: Some(error),
+            rest,
+            count: 0,
+        },
     }
 }
 

@@ -1,13 +1,14 @@
 // What `--help` says, on standard output.
 use crate::complaint::complain_of;
 use crate::status::{DONE, FAILED};
-use libc::STDOUT_FILENO;
 
 // Answers the status.
-pub fn write(program: &[u8], text: &[u8]) -> u8 {
-    if io::write_all(STDOUT_FILENO, text) {
-        return DONE;
+pub fn write(rt: &HostRuntime, program: &[u8], text: &[u8]) -> u8 {
+    match Print::write_all(&rt.stdout(), text) {
+        Ok(()) => DONE,
+        Err(error) => {
+            complain_of(rt, program, b"standard output", error);
+            FAILED
+        }
     }
-    complain_of(program, b"standard output");
-    FAILED
 }

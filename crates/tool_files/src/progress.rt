@@ -1,5 +1,6 @@
 // How far a long run is, in one line on standard error where that is a terminal.
-use libc::STDERR_FILENO;
+use crate::complaint::say;
+use std::io::IsTerminal;
 use std::num::wrapping_add_u64;
 use text::part::between;
 use text::put::put;
@@ -16,9 +17,9 @@ pub struct Progress {
 
 const MILLION: u64 = 1000000;
 
-pub fn begin(size: u64) -> Progress {
+pub fn begin(rt: &HostRuntime, size: u64) -> Progress {
     Progress {
-        shown: libc::isatty(STDERR_FILENO) == 1,
+        shown: rt.stderr().is_terminal(),
         read: 0,
         size,
         told: 0,
@@ -26,12 +27,12 @@ pub fn begin(size: u64) -> Progress {
 }
 
 // Octets more were read. The line is written anew for each ten millions, some times a second.
-pub fn on(progress: Progress, program: &[u8], octets: usize) -> Progress {
+pub fn on(rt: &HostRuntime, progress: Progress, program: &[u8], octets: usize) -> Progress {
     let read = wrapping_add_u64(progress.read, octets as u64);
     let millions = read / MILLION;
     let told = progress.shown && wrapping_add_u64(progress.told, 10) <= millions;
     if told {
-        write_line(program, millions, progress.size / MILLION);
+        write_line(rt, program, millions, progress.size / MILLION);
     }
     Progress {
         shown: progress.shown,
@@ -41,14 +42,14 @@ pub fn on(progress: Progress, program: &[u8], octets: usize) -> Progress {
     }
 }
 
-fn write_line(program: &[u8], read: u64, size: u64) {
+fn write_line(rt: &HostRuntime, program: &[u8], read: u64, size: u64) {
     let mut out = [0u8; 80];
     let at = put(&mut out, 0, b"\r");
     let at = put(&mut out, at, program);
     let at = put(&mut out, at, b": ");
     let at = put_number(&mut out, at, read, b" ");
     let at = put_size(&mut out, at, size);
-    write_text(&out, at);
+    say(rt, between(&out, 0, at));
 }
 
 // Of how much, where that is known.
@@ -61,15 +62,11 @@ fn put_size(out: &mut [u8; 80], at: usize, size: u64) -> usize {
     put(out, next, b"million octets of the record")
 }
 
-fn write_text(out: &[u8; 80], length: usize) {
-    io::write_all(STDERR_FILENO, between(out, 0, length));
-}
-
 // The line goes, so that another can stand in its place.
-pub fn clear(progress: Progress) {
+pub fn clear(rt: &HostRuntime, progress: Progress) {
     if 0 < progress.told {
-        io::write_all(
-            STDERR_FILENO,
+        say(
+            rt,
             b"\r                                                                               \r",
         );
     }
