@@ -35,6 +35,7 @@ pub fn read_kind(text: &[u8]) -> Kind
     timer_kind(text)
 }
 
+#[tactic(auto, unfolding(crate::specs::KindWords::timer_of))]
 fn timer_kind(text: &[u8]) -> Kind
     ensures { result ≡ timer_of text.now }
 {
