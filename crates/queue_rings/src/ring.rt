@@ -12,6 +12,7 @@ pub struct Taken {
 }
 
 // How many slots a ring holds.
+#[tactic(auto, unfolding(crate::specs::Ring::count_of))]
 pub fn count(spans: &[u16; 70], ring: u8) -> u16
     ensures { result ≡ Ring.count_of spans.now ring }
 {
@@ -27,6 +28,7 @@ fn cell(ring: u8, head: u16, place: u16) -> usize
 }
 
 // The slot at a place of a ring, counted from the head.
+#[tactic(auto, unfolding(crate::specs::Ring::at_of, crate::specs::Ring::entry, crate::specs::Ring::count_of))]
 pub fn at(spans: &[u16; 70], rings: &[u8; 8960], ring: u8, place: u16) -> Taken
     ensures { result ≡ Ring.at_of spans.now rings.now ring place }
 {
@@ -51,6 +53,7 @@ pub fn at(spans: &[u16; 70], rings: &[u8; 8960], ring: u8, place: u16) -> Taken
 }
 
 // The head of a ring leaves it.
+#[tactic(auto, unfolding(crate::specs::Ring::take_of, crate::specs::Ring::at_of, crate::specs::Ring::spans_taken, crate::specs::Ring::entry, crate::specs::Ring::count_of))]
 pub fn take(spans: &mut [u16; 70], rings: &[u8; 8960], ring: u8) -> Taken
     ensures value { result ≡ Ring.take_of spans.old rings.now ring }
     ensures spans_after { spans.new ≡ Ring.spans_taken spans.old ring }
@@ -83,6 +86,7 @@ pub fn take(spans: &mut [u16; 70], rings: &[u8; 8960], ring: u8) -> Taken
 }
 
 // A slot goes to the end of a ring; a full ring has no room, and stays as it is.
+#[tactic(auto, unfolding(crate::specs::Ring::spans_put, crate::specs::Ring::rings_put, crate::specs::Ring::room_in, crate::specs::Ring::count_of))]
 pub fn put(spans: &mut [u16; 70], rings: &mut [u8; 8960], ring: u8, slot: u8) -> bool
     ensures value { result ≡ Ring.room_in spans.old ring }
     ensures spans_after { spans.new ≡ Ring.spans_put spans.old ring }
