@@ -6,7 +6,7 @@ ghost use Rattle.std.specs.Prelude.{◌≤◌, length};
 
 use plan::data::Plan;
 use std::env::FillError;
-use std::io::{Read, Write};
+use std::io::{Cursor, Read, Write};
 use std::rt::{Env, Files};
 use std::{fs, io};
 
@@ -45,8 +45,22 @@ fn show_file(
             }
             show(rt, text::part::between(&text, 0, count))
         }
-        Err(error) => eprintln!(rt; "{name}: {error}"),
+        Err(error) => say_error(rt, name, error),
     }
+}
+
+// What failed, and the system's word for it, without the number that stands behind it.
+fn say_error(rt: &impl Eprint, name: &str, error: io::Error) -> io::Result<()> {
+    let mut text = Cursor::new([0u8; 320]);
+    write!(text, "{error}")?;
+    let length = usize::try_from(text.position()).unwrap_or(0);
+    let area = text.into_inner();
+    let said = str::from_utf8(text::part::between(&area, 0, length)).unwrap_or("");
+    let words = match said.split_once(" (os error ") {
+        Some((plain, _)) => plain,
+        None => said,
+    };
+    eprintln!(rt; "{name}: {words}")
 }
 
 // How many octets a file gave, or that it can't be read. A text longer than the buffer is cut, and longer than any configuration
