@@ -8,6 +8,7 @@ ghost use Rattle.text_pages.specs.Page.{page, puts};
 use text::put::put;
 use text_decimals::decimal::put_decimal;
 
+#[tactic(auto, unfolding(crate::specs::Page::puts))]
 pub fn put_number(out: &mut [u8], at: usize, number: u64, behind: &[u8]) -> usize
     ensures { page out.new result ≡ puts (page out.old at) (decimal_of number ∷ behind.now ∷ []) }
 {
