@@ -11,6 +11,7 @@ pub enum Octets {
 }
 
 // Puts the octets that the text says at the start of the area; where it is wrong, the area stays as it was.
+#[tactic(auto, using(crate::proofs::Octets::octets_length))]
 pub fn hex(text: &[u8], out: &mut [u8]) -> Octets
     ensures value { result ≡ Hex.count_of text.now out.old }
     ensures out_after { out.new ≡ Hex.filled text.now out.old }
@@ -70,6 +71,7 @@ fn fill(text: &[u8], out: &mut [u8])
 }
 
 // Writes the octets as pairs of hex digits, as `put` does.
+#[tactic(auto, using(crate::proofs::Octets::hex_length))]
 pub fn put_hex(out: &mut [u8], at: usize, octets: &[u8]) -> usize
     ensures value { result ≡ past out.old at (Hex.hex_of octets.now) }
     ensures out_after { out.new ≡ written out.old at (Hex.hex_of octets.now) }
