@@ -32,6 +32,7 @@ pub enum Came {
 }
 
 // A message for our code.
+#[tactic(auto, unfolding(crate::specs::Discrimination::ours, crate::specs::Discrimination::managed))]
 fn ours(plan: &[u16; 1024], header: Header, message: &[u8]) -> Came
     ensures { result ≡ Discrimination.ours (plan_of plan) header message.now }
 {
@@ -58,6 +59,7 @@ fn ours(plan: &[u16; 1024], header: Header, message: &[u8]) -> Came
 }
 
 // A message from a link.
+#[tactic(auto, unfolding(crate::specs::Discrimination::from_link_by))]
 pub fn from_link(plan: &[u16; 1024], message: &[u8]) -> Came
     ensures { result ≡ Discrimination.from_link (plan_of plan) message.now }
 {
@@ -76,6 +78,7 @@ pub fn from_link(plan: &[u16; 1024], message: &[u8]) -> Came
 }
 
 // A message from the host.
+#[tactic(auto, unfolding(crate::specs::Discrimination::from_host_by))]
 pub fn from_host(plan: &[u16; 1024], message: &[u8]) -> Came
     ensures { result ≡ Discrimination.from_host (plan_of plan) message.now }
 {
