@@ -9,6 +9,7 @@ use constants::{FREE_MANAGEMENT, FREE_USER};
 use queue_rings::ring::{Taken, at, put, take};
 
 // The head of a ring goes to the end of a ring; an empty one stays as it is.
+#[tactic(auto, unfolding(crate::specs::Head::head_of, crate::specs::Head::moved, queue_rings::specs::Move::spans_moved, queue_rings::specs::Move::rings_moved), using(queue_rings::proofs::Queues::taken_none))]
 pub fn move_head(spans: &mut [u16; 70], rings: &mut [u8; 8960], from: u8, to: u8) -> Taken
     ensures value { result ≡ Head.head_of (queues_before spans rings) from }
     ensures rings_value { queues_after spans rings ≡ Head.moved (queues_before spans rings) from to }
@@ -32,6 +33,7 @@ pub fn free_ring(slot: u8) -> u8
 }
 
 // The head of a ring is given up, and its slot is free.
+#[tactic(auto, unfolding(crate::specs::Head::head_of, crate::specs::Head::freed, queue_rings::specs::Ring::take_of))]
 pub fn free_head(spans: &mut [u16; 70], rings: &mut [u8; 8960], ring: u8) -> Taken
     ensures value { result ≡ Head.head_of (queues_before spans rings) ring }
     ensures rings_value { queues_after spans rings ≡ Head.freed (queues_before spans rings) ring }
