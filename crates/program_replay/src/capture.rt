@@ -1,4 +1,5 @@
 // A capture of what was received and sent, which Wireshark opens: the time of a packet is its line in the record.
+use std::fs::File;
 use std::num::wrapping_add_usize;
 use text::part::{between, field, line, same};
 use text_decimals::decimal::{Number, decimal};
@@ -10,9 +11,9 @@ use tool_words::lines::{Entry, entry_of, past_two, value};
 const WITH_HEADER: u64 = 139;
 
 // Where the capture stands: what is written, and the line of the record that was answered last.
-#[derive(Clone, Copy)]
+#[derive(Drop)]
 struct Captured {
-    packets: Writer,
+    packets: Writer<File>,
     entry: Entry,
 }
 
@@ -26,7 +27,7 @@ struct Header {
 }
 
 // The head of a capture, with its link type.
-pub fn begin(packets: Writer, type_of_link: u64) -> Writer {
+pub fn begin(packets: Writer<File>, type_of_link: u64) -> Writer<File> {
     let mut area = [0u8; 65536];
     let head = b"\xd4\xc3\xb2\xa1\x02\x00\x04\x00\x00\x00\x00\x00\x00\x00\x00\x00\x00\x00\x04\x00";
     let packets = add(packets, &mut area, head);
@@ -35,10 +36,13 @@ pub fn begin(packets: Writer, type_of_link: u64) -> Writer {
 }
 
 // The packets of a turn: lines of the record from a number on, and the answers that are shown of them.
-pub fn take(packets: Writer, type_of_link: u64, lines: &[u8], first: u64, page: &[u8]) -> Writer {
-    if packets.fd < 0 {
-        return packets;
-    }
+pub fn take(
+    packets: Writer<File>,
+    type_of_link: u64,
+    lines: &[u8],
+    first: u64,
+    page: &[u8],
+) -> Writer<File> {
     let mut area = [0u8; 65536];
     let mut captured = Captured {
         packets,
@@ -48,9 +52,7 @@ pub fn take(packets: Writer, type_of_link: u64, lines: &[u8], first: u64, page: 
         },
     };
     let mut at = 0;
-    let mut turns = page.len();
-    while 0 < turns {
-        turns -= 1;
+    for _ in 0..page.len() {
         let part = line(page, at);
         if !part.closed {
             break;
@@ -95,13 +97,13 @@ fn take_answer(
 
 // A call and its reply: of `send LINK` the FSN and the octets stand in the reply, of `received LINK FSN OCTETS` in the call.
 fn take_call(
-    packets: Writer,
+    packets: Writer<File>,
     area: &mut [u8; 65536],
     type_of_link: u64,
     number: u64,
     call: &[u8],
     reply: &[u8],
-) -> Writer {
+) -> Writer<File> {
     let kind = field(call, 0, call.len());
     let link = field(call, kind.next, call.len());
     let of_link = value(between(call, kind.next, link.end), 0);
@@ -141,14 +143,14 @@ fn taken(reply: &[u8]) -> bool {
 
 // One packet, of an FSN and octets: its time and its length, twice, and its octets. A reply that sends nothing has none.
 fn add_packet(
-    packets: Writer,
+    packets: Writer<File>,
     area: &mut [u8; 65536],
     type_of_link: u64,
     number: u64,
     sent: u8,
     link: u64,
     message: &[u8],
-) -> Writer {
+) -> Writer<File> {
     let fsn = field(message, 0, message.len());
     let mut octets = [0u8; 1024];
     let Octets::Count(count) = hex(between(message, fsn.next, message.len()), &mut octets) else {
@@ -174,16 +176,21 @@ fn add_packet(
 }
 
 fn add_octets(
-    packets: Writer,
+    packets: Writer<File>,
     area: &mut [u8; 65536],
     octets: &[u8; 1024],
     count: usize,
-) -> Writer {
+) -> Writer<File> {
     add(packets, area, between(octets, 0, count))
 }
 
 // Direction and link, and MTP2's own three octets: the BSN, which isn't known, the FSN, and how many octets follow; as many as are asked for.
-fn add_header(packets: Writer, area: &mut [u8; 65536], header: Header, octets: usize) -> Writer {
+fn add_header(
+    packets: Writer<File>,
+    area: &mut [u8; 65536],
+    header: Header,
+    octets: usize,
+) -> Writer<File> {
     let link = header.link;
     let length = if header.length < 63 {
         header.length
@@ -210,7 +217,7 @@ fn add_header(packets: Writer, area: &mut [u8; 65536], header: Header, octets: u
 }
 
 // A word of 32 bits, its lowest octet first.
-fn add_word(packets: Writer, area: &mut [u8; 65536], number: u64) -> Writer {
+fn add_word(packets: Writer<File>, area: &mut [u8; 65536], number: u64) -> Writer<File> {
     add(
         packets,
         area,

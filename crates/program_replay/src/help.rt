@@ -2,8 +2,9 @@
 use tool_files::help;
 
 // Answers the status.
-pub fn write() -> u8 {
+pub fn write(rt: &HostRuntime) -> u8 {
     help::write(
+        rt,
         b"replay",
         b"replay [OPTION..] CONFIGURATION RECORD
 

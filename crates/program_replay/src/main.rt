@@ -12,37 +12,35 @@ mod summary;
 mod words;
 
 use options::Options;
+use std::process::ExitCode;
 use tool_files::{file, status};
 
-fn main() {
-    let told = status::can_be_told();
-    let options = options::read();
-    status::tell(told, replay(options));
+fn main(rt: HostRuntime) -> ExitCode {
+    let options = options::read(&rt);
+    status::tell(replay(&rt, options))
 }
 
 // What is asked for is done; answers the status.
-fn replay(options: Options) -> u8 {
+fn replay(rt: &HostRuntime, options: Options) -> u8 {
     if options.arguments.help {
-        return help::write();
+        return help::write(rt);
     }
     if 0 < options.arguments.fault {
-        options::advise(options);
+        options::advise(rt, options);
         return status::FAILED;
     }
-    replay_files(options)
+    replay_files(rt, options)
 }
 
 // Both files are read before anything is written: of the record as much as one piece holds.
-fn replay_files(options: Options) -> u8 {
-    let mut text = io::large_buffer();
-    let configuration = file::read(b"replay", options.arguments.configuration, &mut text);
-    if configuration.failed {
+fn replay_files(rt: &HostRuntime, options: Options) -> u8 {
+    let mut text = [0u8; 65536];
+    let Some(length) = file::read(rt, b"replay", options.arguments.configuration, &mut text) else {
         return status::FAILED;
-    }
-    let mut piece = io::large_buffer();
-    let record = file::begin(b"replay", options.arguments.record, &mut piece);
-    if record.failed {
+    };
+    let mut piece = [0u8; 65536];
+    let Some(record) = file::begin(rt, b"replay", options.arguments.record, &mut piece) else {
         return status::FAILED;
-    }
-    run::run(options, &text, configuration.count, record, &mut piece)
+    };
+    run::run(rt, options, &text, length, record, &mut piece)
 }

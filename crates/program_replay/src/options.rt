@@ -2,7 +2,7 @@
 use text::part::{between, same};
 use text_decimals::decimal::{Number, decimal};
 use tool_files::arguments;
-use tool_files::arguments::{Arguments, NO_LINE, Word, ends, next_word, settled, unread};
+use tool_files::arguments::{Arguments, NO_LINE, Word, ends, next_word, settled, unread, word_at};
 
 // The places of words among the arguments are 0 where the word isn't there.
 #[derive(Clone, Copy)]
@@ -30,15 +30,13 @@ const NO_LINK_TYPE: u64 = 8;
 const NOT_WITH_ONLY: u64 = 9;
 
 // Word after word, up to the first that is wrong or asks for help.
-pub fn read() -> Options {
+pub fn read(rt: &HostRuntime) -> Options {
     let mut options = nothing();
-    let mut turns = os::arg_count();
-    while 0 < turns {
-        turns -= 1;
-        if ends(options.arguments) {
+    for _ in 0..arguments::count(rt) {
+        if ends(rt, options.arguments) {
             break;
         }
-        options = with_word(options);
+        options = with_word(rt, options);
     }
     complete(options)
 }
@@ -81,8 +79,9 @@ fn wrong(options: Options, fault: u64, word: usize) -> Options {
 }
 
 // The next word: a file, an option, or an option and its value.
-fn with_word(options: Options) -> Options {
+fn with_word(rt: &HostRuntime, options: Options) -> Options {
     let word = next_word(
+        rt,
         options.arguments,
         b"--fates\n--calls\n--words\n--summary\n--from\n--to\n--only\n--pcap\n--link-type\n",
         4,
@@ -91,7 +90,7 @@ fn with_word(options: Options) -> Options {
     if word.value == 0 {
         return with_flag(next, word.option);
     }
-    with_value(next, word)
+    with_value(rt, next, word)
 }
 
 fn with_flag(options: Options, option: u64) -> Options {
@@ -106,9 +105,9 @@ fn with_flag(options: Options, option: u64) -> Options {
     next
 }
 
-fn with_value(options: Options, word: Word) -> Options {
-    let mut area = io::buffer();
-    let length = os::arg(word.value, &mut area);
+fn with_value(rt: &HostRuntime, options: Options, word: Word) -> Options {
+    let mut area = [0u8; 4096];
+    let length = word_at(rt, word.value, &mut area);
     let value = between(&area, 0, length);
     let mut next = options;
     if word.option == 7 {
@@ -149,8 +148,9 @@ fn unless(options: Options, right: bool, fault: u64, place: usize) -> Options {
 }
 
 // Says what is wrong, and what to do.
-pub fn advise(options: Options) {
+pub fn advise(rt: &HostRuntime, options: Options) {
     arguments::advise(
+        rt,
         b"replay",
         options.arguments,
         b": not what can be shown alone; write --only reports\n\

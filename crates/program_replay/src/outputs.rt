@@ -2,37 +2,36 @@
 use crate::options::Options;
 use crate::show::{Asked, show};
 use crate::{capture, summary};
+use std::fs::File;
+use std::io;
+use std::rt::Stdout;
 use tool_files::complaint::complain_of;
 use tool_files::progress::Progress;
 use tool_files::writer::{Writer, closed};
 use tool_files::{progress, status};
 
-#[derive(Clone, Copy)]
+// There are packets only where a capture is asked for.
+#[derive(Drop)]
 pub struct Outputs {
-    pub answers: Writer,
-    pub packets: Writer,
+    pub answers: Writer<Stdout>,
+    pub packets: Option<Writer<File>>,
     pub progress: Progress,
     pub status: u8,
 }
 
 // The capture has its head, where one is asked for.
 pub fn begin(outputs: Outputs, options: Options) -> Outputs {
-    let mut packets = outputs.packets;
-    if 0 <= packets.fd {
-        packets = capture::begin(packets, options.type_of_link);
-    }
-    let answers = outputs.answers;
-    let progress = outputs.progress;
-    Outputs {
-        answers,
-        packets,
-        progress,
-        status: outputs.status,
-    }
+    let mut next = outputs;
+    next.packets = match next.packets {
+        Some(packets) => Some(capture::begin(packets, options.type_of_link)),
+        None => None,
+    };
+    next
 }
 
 // A page of answers, which are to lines of the record from a number on: counted, shown and captured as is asked for.
 pub fn take(
+    rt: &HostRuntime,
     outputs: Outputs,
     options: Options,
     lines: &[u8],
@@ -48,76 +47,67 @@ pub fn take(
         calls: options.calls,
         words: options.words,
     };
-    let answers = show(outputs.answers, asked, lines, first, page);
-    let packets = capture::take(outputs.packets, options.type_of_link, lines, first, page);
-    let progress = outputs.progress;
-    told(Outputs {
-        answers,
-        packets,
-        progress,
-        status: if readable {
-            status::DONE
-        } else {
-            status::REFUSED
-        },
-    })
+    let mut next = outputs;
+    next.answers = show(next.answers, asked, lines, first, page);
+    next.packets = match next.packets {
+        Some(packets) => Some(capture::take(packets, options.type_of_link, lines, first, page)),
+        None => None,
+    };
+    next.status = if readable {
+        status::DONE
+    } else {
+        status::REFUSED
+    };
+    told(rt, next)
 }
 
 // A write that failed just now is told, and ends the run.
-fn told(outputs: Outputs) -> Outputs {
-    let answers = outputs.answers;
-    if answers.failed {
-        return fail(outputs, b"standard output");
+fn told(rt: &HostRuntime, outputs: Outputs) -> Outputs {
+    if let Some(error) = outputs.answers.failed {
+        return fail(rt, outputs, b"standard output", error);
     }
-    let packets = outputs.packets;
-    if packets.failed {
-        return fail(outputs, b"the capture");
+    if let Some(error) = failure_of(&outputs.packets) {
+        return fail(rt, outputs, b"the capture", error);
     }
     outputs
 }
 
+fn failure_of(packets: &Option<Writer<File>>) -> Option<io::Error> {
+    match packets {
+        Some(packets) => packets.failed,
+        None => None,
+    }
+}
+
 // Says what failed just now, and ends the run.
-pub fn fail(outputs: Outputs, what: &[u8]) -> Outputs {
-    progress::clear(outputs.progress);
-    complain_of(b"replay", what);
+pub fn fail(rt: &HostRuntime, outputs: Outputs, what: &[u8], error: io::Error) -> Outputs {
+    progress::clear(rt, outputs.progress);
+    complain_of(rt, b"replay", what, error);
     let mut next = outputs;
     next.status = status::FAILED;
     next
 }
 
 // The run ends: its summary, where one is asked for and can be written; and the capture is closed.
-pub fn end(outputs: Outputs, options: Options, counts: &[u64; 21]) -> u8 {
-    progress::clear(outputs.progress);
-    let mut answers = outputs.answers;
-    if options.summary && !answers.failed {
-        answers = summary::write(answers, options.fates, counts);
+pub fn end(rt: &HostRuntime, outputs: Outputs, options: Options, counts: &[u64; 21]) -> u8 {
+    progress::clear(rt, outputs.progress);
+    let mut next = outputs;
+    if options.summary && next.answers.failed.is_none() {
+        next.answers = summary::write(next.answers, options.fates, counts);
     }
-    let mut packets = outputs.packets;
-    if 0 <= packets.fd && !packets.failed {
-        packets = closed(packets);
-    }
-    if outputs.status == status::FAILED {
+    next.packets = match next.packets {
+        Some(packets) => Some(closed(packets)),
+        None => None,
+    };
+    if next.status == status::FAILED {
         return status::FAILED;
     }
-    let progress = outputs.progress;
-    let ended = told(Outputs {
-        answers,
-        packets,
-        progress,
-        status: outputs.status,
-    });
-    ended.status
+    told(rt, next).status
 }
 
 // Octets more of the record were read.
-pub fn go_on(outputs: Outputs, octets: usize) -> Outputs {
-    let progress = progress::on(outputs.progress, b"replay", octets);
-    let answers = outputs.answers;
-    let packets = outputs.packets;
-    Outputs {
-        answers,
-        packets,
-        progress,
-        status: outputs.status,
-    }
+pub fn go_on(rt: &HostRuntime, outputs: Outputs, octets: usize) -> Outputs {
+    let mut next = outputs;
+    next.progress = progress::on(rt, next.progress, b"replay", octets);
+    next
 }

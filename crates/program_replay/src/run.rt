@@ -3,11 +3,11 @@ use crate::options::Options;
 use crate::outputs;
 use crate::outputs::Outputs;
 use crate::show::{Asked, show};
-use libc::STDOUT_FILENO;
 use replay_refusals::{put_fault, put_unreadable};
 use replay_shift::run::{Place, View};
 use start::start;
 use std::num::{wrapping_add_u64, wrapping_add_usize};
+use std::{fs, io};
 use text::part::between;
 use tool_files::complaint::complain_of;
 use tool_files::file::{File, next_piece, size};
@@ -18,12 +18,14 @@ use tool_words::lines::{Entry, entry_of};
 
 // The node that a configuration's text makes, and the calls of a record on it, of which the first piece is read. Answers the status.
 pub fn run(
+    rt: &HostRuntime,
     options: Options,
     text: &[u8; 65536],
     length: usize,
     record: File,
     piece: &mut [u8; 65536],
 ) -> u8 {
+    let mut record = record;
     let configuration = between(text, 0, length);
     let mut plan = [0u16; 1024];
     let mut links = [0u32; 256];
@@ -41,13 +43,13 @@ pub fn run(
         configuration,
     );
     if 0 < made.fault {
-        return refuse(options, made.line, made.fault);
+        return refuse(rt, options, made.line, made.fault);
     }
-    let begun = opened(options, configuration, piece, record);
-    if begun.status == status::FAILED {
+    let Some(begun) = opened(rt, options, configuration, piece, &mut record) else {
         return status::FAILED;
-    }
+    };
     run_pieces(
+        rt,
         &plan,
         &mut links,
         &mut marks,
@@ -61,50 +63,54 @@ pub fn run(
     )
 }
 
-// Where the run writes to: standard output and the file of a capture. Of the record the first piece is read.
-fn opened(options: Options, configuration: &[u8], piece: &[u8; 65536], record: File) -> Outputs {
-    let octets = size(record.fd);
-    let mut packets = -1;
-    let mut told = status::DONE;
+// Where the run writes to: standard output and the file of a capture, none where that can't be opened. Of the record the first piece is read.
+fn opened(
+    rt: &HostRuntime,
+    options: Options,
+    configuration: &[u8],
+    piece: &[u8; 65536],
+    record: &mut File,
+) -> Option<Outputs> {
+    let octets = size(&mut record.handle);
+    let mut packets = None;
     if 0 < options.capture {
-        packets = target::open(
+        let capture = target::open(
+            rt,
             b"replay",
             options.capture,
             true,
             configuration,
             between(piece, 0, record.count),
             octets,
-        );
-        if packets < 0 {
-            told = status::FAILED;
-        }
+        )?;
+        packets = Some(onto(capture));
     }
-    Outputs {
-        answers: onto(STDOUT_FILENO),
-        packets: onto(packets),
-        progress: progress::begin(octets),
-        status: told,
-    }
+    Some(Outputs {
+        answers: onto(rt.stdout()),
+        packets,
+        progress: progress::begin(rt, octets),
+        status: status::DONE,
+    })
 }
 
 // A configuration that is refused, alone in the output.
-fn refuse(options: Options, line: usize, fault: u8) -> u8 {
+fn refuse(rt: &HostRuntime, options: Options, line: usize, fault: u8) -> u8 {
     let mut out = [0u8; 64];
     let count = put_fault(&mut out, 0, line, fault);
     let asked = Asked {
         calls: false,
         words: options.words,
     };
-    let answers = show(onto(STDOUT_FILENO), asked, b"", 0, between(&out, 0, count));
-    if answers.failed {
-        complain_of(b"replay", b"standard output");
+    let answers = show(onto(rt.stdout()), asked, b"", 0, between(&out, 0, count));
+    if let Some(error) = answers.failed {
+        complain_of(rt, b"replay", b"standard output", error);
         return status::FAILED;
     }
     status::REFUSED
 }
 
 // Where a run stands: the next line, what is written, how much of the piece is filled, and whether nothing more is run.
-#[derive(Clone, Copy)]
+#[derive(Drop)]
 struct Turn {
     place: Place,
     outputs: Outputs,
@@ -114,6 +120,7 @@ struct Turn {
 
 // Turn after turn, up to the record's end, a line that can't be read, or the last that is shown.
 fn run_pieces(
+    rt: &HostRuntime,
     plan: &[u16; 1024],
     links: &mut [u32; 256],
     marks: &mut [u32; 512],
@@ -125,6 +132,7 @@ fn run_pieces(
     record: File,
     piece: &mut [u8; 65536],
 ) -> u8 {
+    let mut record = record;
     let mut rows = [0u64; 2048];
     let mut octets = [0u8; 52416];
     let mut page = [0u8; 262144];
@@ -135,10 +143,9 @@ fn run_pieces(
         filled: record.count,
         ended: false,
     };
-    let mut turns = u64::MAX;
-    while 0 < turns {
-        turns -= 1;
+    for _ in 0..u64::MAX {
         turn = run_turn(
+            rt,
             plan,
             links,
             marks,
@@ -149,7 +156,7 @@ fn run_pieces(
             arrivals,
             options,
             turn,
-            record.fd,
+            &mut record.handle,
             piece,
             &mut page,
             &mut counts,
@@ -158,11 +165,12 @@ fn run_pieces(
             break;
         }
     }
-    outputs::end(turn.outputs, options, &counts)
+    outputs::end(rt, turn.outputs, options, &counts)
 }
 
 // The lines that end in the piece, as far as a page holds what they write; with none left, the next piece.
 fn run_turn(
+    rt: &HostRuntime,
     plan: &[u16; 1024],
     links: &mut [u32; 256],
     marks: &mut [u32; 512],
@@ -173,7 +181,7 @@ fn run_turn(
     arrivals: &mut [u64; 1],
     options: Options,
     turn: Turn,
-    fd: i32,
+    handle: &mut fs::File,
     piece: &mut [u8; 65536],
     page: &mut [u8; 262144],
     counts: &mut [u64; 21],
@@ -195,6 +203,7 @@ fn run_turn(
         page,
     );
     let outputs = outputs::take(
+        rt,
         turn.outputs,
         options,
         between(piece, before.at, place.at),
@@ -203,42 +212,51 @@ fn run_turn(
         place.readable,
         counts,
     );
-    let next = taken(turn, options, place, outputs);
+    let next = taken(turn.filled, options, place, outputs);
     if next.ended || before.at < place.at {
         return next;
     }
-    read_on(next, options, fd, piece, counts)
+    read_on(rt, next, options, handle, piece, counts)
 }
 
 // Lines were run, and their answers taken.
-fn taken(turn: Turn, options: Options, after: Place, outputs: Outputs) -> Turn {
+fn taken(filled: usize, options: Options, after: Place, outputs: Outputs) -> Turn {
     let mut place = after;
     place.pending = 0;
     let ended = ends(options, outputs.status, place.number);
     Turn {
         place,
         outputs,
-        filled: turn.filled,
+        filled,
         ended,
     }
 }
 
 // What the piece cuts goes to the front of the next; with no next one the run has ended.
 fn read_on(
+    rt: &HostRuntime,
     turn: Turn,
     options: Options,
-    fd: i32,
+    handle: &mut fs::File,
     piece: &mut [u8; 65536],
     counts: &mut [u64; 21],
 ) -> Turn {
     let mut place = turn.place;
-    let next = next_piece(fd, piece, place.at, turn.filled);
+    let next = next_piece(handle, piece, place.at, turn.filled);
     place.at = 0;
-    let mut outputs = outputs::go_on(turn.outputs, next.count);
+    let mut outputs = outputs::go_on(rt, turn.outputs, next.count);
     let ended = next.count == 0;
     if ended {
         let rest = between(piece, 0, next.rest);
-        outputs = read_out(outputs, options, rest, next.failed, place.number, counts);
+        outputs = read_out(
+            rt,
+            outputs,
+            options,
+            rest,
+            next.failed,
+            place.number,
+            counts,
+        );
     }
     Turn {
         place,
@@ -281,15 +299,16 @@ fn ends(options: Options, told: u8, number: u64) -> bool {
 
 // The record has no more octets: those behind its last LF are no line.
 fn read_out(
+    rt: &HostRuntime,
     outputs: Outputs,
     options: Options,
     rest: &[u8],
-    failed: bool,
+    failed: Option<io::Error>,
     number: u64,
     counts: &mut [u64; 21],
 ) -> Outputs {
-    if failed {
-        return outputs::fail(outputs, b"the record");
+    if let Some(error) = failed {
+        return outputs::fail(rt, outputs, b"the record", error);
     }
     if rest.len() == 0 {
         return outputs;
@@ -297,6 +316,7 @@ fn read_out(
     let mut out = [0u8; 64];
     let count = put_unreadable(&mut out, 0, number);
     outputs::take(
+        rt,
         outputs,
         options,
         rest,

@@ -1,5 +1,6 @@
 // What is shown of the answers: as they stand, or with the calls and the words that are asked for.
 use crate::words::add_words;
+use std::rt::Stdout;
 use text::part::{between, field, line, same};
 use text_decimals::decimal::{Number, decimal};
 use tool_files::writer::{Writer, add, flush, write};
@@ -15,12 +16,18 @@ pub struct Asked {
 // Where the showing stands: what is written, and the line of the record that was answered last.
 #[derive(Clone, Copy)]
 struct Shown {
-    output: Writer,
+    output: Writer<Stdout>,
     entry: Entry,
 }
 
 // The answers of a page, which are to lines of the record from a number on.
-pub fn show(output: Writer, asked: Asked, lines: &[u8], first: u64, page: &[u8]) -> Writer {
+pub fn show(
+    output: Writer<Stdout>,
+    asked: Asked,
+    lines: &[u8],
+    first: u64,
+    page: &[u8],
+) -> Writer<Stdout> {
     if !asked.calls && !asked.words {
         return write(output, page);
     }
@@ -33,9 +40,7 @@ pub fn show(output: Writer, asked: Asked, lines: &[u8], first: u64, page: &[u8])
         },
     };
     let mut at = 0;
-    let mut turns = page.len();
-    while 0 < turns {
-        turns -= 1;
+    for _ in 0..page.len() {
         let part = line(page, at);
         if !part.closed {
             break;

@@ -1,5 +1,6 @@
 // How many lines of each kind were shown: replies by their number, drops by their reason, pauses, resumes, and the five fates.
 use std::num::wrapping_add_u64;
+use std::rt::Stdout;
 use text::part::{between, field, line, same};
 use tool_files::writer::{Writer, add, add_decimal, flush};
 use tool_words::lines::{number_of, numbered, value};
@@ -7,7 +8,7 @@ use tool_words::lines::{number_of, numbered, value};
 // Counts the lines of a text: replies 0 to 11, then drops for reasons 1 and 2, then the others in the order of their list.
 pub fn count(text: &[u8], counts: &mut [u64; 21]) {
     let mut at = 0;
-    loop {
+    for _ in 0..text.len() {
         let part = line(text, at);
         if !part.closed {
             break;
@@ -49,27 +50,35 @@ fn count_at(place: u64, counts: &mut [u64; 21]) {
 }
 
 // A line for each of the counts, of the fates only where they are shown.
-pub fn write(output: Writer, fates: bool, counts: &[u64; 21]) -> Writer {
+pub fn write(output: Writer<Stdout>, fates: bool, counts: &[u64; 21]) -> Writer<Stdout> {
     let mut area = [0u8; 65536];
     let written = add_totals(output, &mut area, fates, counts);
     flush(written, &area)
 }
 
-fn add_totals(output: Writer, area: &mut [u8; 65536], fates: bool, counts: &[u64; 21]) -> Writer {
+fn add_totals(
+    output: Writer<Stdout>,
+    area: &mut [u8; 65536],
+    fates: bool,
+    counts: &[u64; 21],
+) -> Writer<Stdout> {
     let mut next = output;
-    let mut place = 0;
-    while place < 21 {
+    for place in 0..21 {
         if !fates && 16 <= place {
             break;
         }
         next = add_total(next, area, place, counts[place]);
-        place += 1;
     }
     next
 }
 
 // A line of the summary: its kind, and how many there were.
-fn add_total(output: Writer, area: &mut [u8; 65536], place: usize, count: u64) -> Writer {
+fn add_total(
+    output: Writer<Stdout>,
+    area: &mut [u8; 65536],
+    place: usize,
+    count: u64,
+) -> Writer<Stdout> {
     let kind = numbered(
         b"reply\t0\nreply\t1\nreply\t2\nreply\t3\nreply\t4\nreply\t5\nreply\t6\nreply\t7\nreply\t8\nreply\t9\nreply\t10\nreply\t11\n\
 drop\t1\ndrop\t2\npause\nresume\nqueued\nsent\nacknowledged\nretired\nmoved\n",

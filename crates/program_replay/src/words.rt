@@ -1,11 +1,17 @@
 // The words of a reply but 0, of a drop's reason, of a fault: one field more behind a line of the answers.
+use std::rt::Stdout;
 use text::part::{between, field, same};
 use tool_files::writer::{Writer, add};
 use tool_words::lines::{past_two, value};
 use tool_words::words::{put_fault, put_reason, put_reply};
 
 // What stands behind the number of an answer's line says whether and where it has a number that has words.
-pub fn add_words(output: Writer, area: &mut [u8; 65536], word: &[u8], answer: &[u8]) -> Writer {
+pub fn add_words(
+    output: Writer<Stdout>,
+    area: &mut [u8; 65536],
+    word: &[u8],
+    answer: &[u8],
+) -> Writer<Stdout> {
     let mut out = [0u8; 80];
     let length = put_words(&mut out, word, answer);
     add_field(output, area, &out, length)
@@ -32,7 +38,12 @@ fn code(answer: &[u8], at: usize) -> u64 {
 }
 
 // One field more, where there are words.
-fn add_field(output: Writer, area: &mut [u8; 65536], words: &[u8; 80], length: usize) -> Writer {
+fn add_field(
+    output: Writer<Stdout>,
+    area: &mut [u8; 65536],
+    words: &[u8; 80],
+    length: usize,
+) -> Writer<Stdout> {
     if length == 0 {
         return output;
     }
