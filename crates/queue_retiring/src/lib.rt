@@ -12,6 +12,7 @@ use queue_heads::free_head;
 use reports::report;
 
 // The first messages of a ring are retired.
+#[tactic(auto, unfolding(crate::specs::Leave::retired))]
 pub fn retire(spans: &mut [u16; 70], rings: &mut [u8; 8960], ring: u8, many: u8)
     ensures { queues_after spans rings ≡ Leave.retired ring many (queues_before spans rings) }
 {
@@ -23,6 +24,7 @@ pub fn retire(spans: &mut [u16; 70], rings: &mut [u8; 8960], ring: u8, many: u8)
 }
 
 // The first message of a ring is dropped and reported; how many reports there are now.
+#[tactic(auto, unfolding(crate::specs::Leave::dropped_one), using(crate::proofs::Drops::freed_none))]
 pub fn drop_head(
     spans: &mut [u16; 70],
     rings: &mut [u8; 8960],
@@ -43,6 +45,7 @@ pub fn drop_head(
 }
 
 // The first messages of a ring are dropped and reported; how many reports there are now.
+#[tactic(auto, unfolding(crate::specs::Leave::dropped))]
 pub fn drop_first(
     spans: &mut [u16; 70],
     rings: &mut [u8; 8960],
