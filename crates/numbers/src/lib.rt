@@ -36,6 +36,7 @@ pub fn is_taken(reply: u8) -> bool
 }
 
 // A message from a link is taken: the link's last received number moves on.
+#[tactic(auto, unfolding(crate::specs::Numbers::taken))]
 pub fn take_message(links: &mut [u32; 256], link: u8, fsn: u8)
     ensures { links.new ≡ Numbers.taken links.old link fsn }
 {
