@@ -14,6 +14,7 @@ use queue_slots::message::{write_management, write_user};
 use wire_messages::management::{Message, field, heading};
 
 // A user message goes to the end of a ring: 0, or 7 or 10 where it can't be held.
+#[tactic(auto, unfolding(crate::specs::Queue::user_reply, crate::specs::Queue::user_queues, crate::specs::Queue::rows_with_user, crate::specs::Queue::user_octets, crate::specs::Queue::user_arrivals, replies::specs::Reply::first))]
 pub fn queue_user(
     spans: &mut [u16; 70],
     rings: &mut [u8; 8960],
@@ -52,6 +53,7 @@ pub fn queue_user(
 }
 
 // A management message goes to the end of a ring: 0, or 8 or 10 where it can't be held.
+#[tactic(auto, unfolding(crate::specs::Queue::management_reply, crate::specs::Queue::management_queues, crate::specs::Queue::rows_with_management, crate::specs::Queue::management_arrivals, replies::specs::Reply::first))]
 pub fn queue_management(
     spans: &mut [u16; 70],
     rings: &mut [u8; 8960],
