@@ -10,6 +10,7 @@ use wire::header::Label;
 use wire_messages::management::{Message, field, heading, total};
 
 // Writes the message, SI 0, at the start of the output and answers how many octets it has; 0 for an output under 273 octets.
+#[tactic(auto, using(crate::proofs::Written::eight))]
 pub fn write_message(ni: u8, label: Label, message: Message, out: &mut [u8]) -> usize
     ensures value { result ≡ Writing.written_count out.old (Writing.octets_of ni label message) }
     ensures out_after { out.new ≡ Writing.written_into out.old (Writing.octets_of ni label message) }
@@ -19,10 +20,12 @@ pub fn write_message(ni: u8, label: Label, message: Message, out: &mut [u8]) -> 
     }
     let octets = spell(ni, label, message);
     let total = total(message);
-    bytes::copy(&octets[..total], out)
+    out[..total].copy_from_slice(&octets[..total]);
+    total
 }
 
 // The message in its first octets; what stands behind them is 0.
+#[tactic(auto, using(crate::proofs::Written::values_some))]
 fn spell(ni: u8, label: Label, message: Message) -> [u8; 8]
     ensures { result ≡ Writing.eight_of ni label message }
 {
