@@ -26,6 +26,7 @@ pub fn cut_none() -> Cut
 }
 
 // By the number of a COO or COA.
+#[tactic(auto, unfolding(crate::specs::Cuts::cut_at))]
 pub fn cut_at(known: LinkRecord, f: u8) -> Cut
     ensures { result ≡ Cuts.cut_at known f }
 {
