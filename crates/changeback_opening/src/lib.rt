@@ -46,6 +46,7 @@ pub fn runs(known: LinkRecord, timer: u8) -> bool
 }
 
 // The record without T3, or without T4.
+#[tactic(auto, unfolding(crate::specs::Opening::stopped))]
 pub fn stopped(known: LinkRecord, timer: u8) -> LinkRecord
     ensures { result ≡ Opening.stopped known timer }
 {
