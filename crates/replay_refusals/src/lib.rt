@@ -14,6 +14,7 @@ pub fn put_unreadable(out: &mut [u8], at: usize, number: u64) -> usize
     put_number(out, at, number, b"\trefused\t30\n")
 }
 
+#[tactic(auto, unfolding(text_pages::specs::Page::puts))]
 pub fn put_fault(out: &mut [u8], at: usize, line: usize, fault: u8) -> usize
     ensures { page out.new result ≡ puts (page out.old at) (refused_by line fault) }
 {
