@@ -47,6 +47,7 @@ fn link_with(plan: &[u16; 1024], set: u8, slc: u8) -> u8
 }
 
 // The link that a message names by its OPC and SLC, 32 where there is none.
+#[tactic(auto, unfolding(crate::specs::Lookup::link_named))]
 pub fn link_named(plan: &[u16; 1024], point: u16, slc: u8) -> u8
     ensures { result ≡ Lookup.link_named (plan_of plan) point slc }
 {
@@ -83,6 +84,7 @@ fn rank_among(routes: [Route; 4], set: u8) -> usize
 }
 
 // Whether a link is configured.
+#[tactic(auto, unfolding(crate::specs::Lookup::is_link))]
 pub fn is_link(plan: &[u16; 1024], link: u8) -> bool
     ensures { result ≡ Lookup.is_link (plan_of plan) link }
 {
@@ -96,6 +98,7 @@ pub fn is_link(plan: &[u16; 1024], link: u8) -> bool
 }
 
 // Whether a set is configured.
+#[tactic(auto, unfolding(crate::specs::Lookup::is_set))]
 pub fn is_set(plan: &[u16; 1024], set: u8) -> bool
     ensures { result ≡ Lookup.is_set (plan_of plan) set }
 {
@@ -109,6 +112,7 @@ pub fn is_set(plan: &[u16; 1024], set: u8) -> bool
 }
 
 // The set of a link, 8 where there is none.
+#[tactic(auto, unfolding(crate::specs::Lookup::set_of))]
 pub fn set_of(plan: &[u16; 1024], link: u8) -> u8
     ensures { result ≡ Lookup.set_of (plan_of plan) link }
 {
@@ -119,6 +123,7 @@ pub fn set_of(plan: &[u16; 1024], link: u8) -> u8
 }
 
 // The SLC of a link.
+#[tactic(auto, unfolding(crate::specs::Lookup::slc_of))]
 pub fn slc_of(plan: &[u16; 1024], link: u8) -> u8
     ensures { result ≡ Lookup.slc_of (plan_of plan) link }
 {
@@ -129,6 +134,7 @@ pub fn slc_of(plan: &[u16; 1024], link: u8) -> u8
 }
 
 // The adjacent point of a link.
+#[tactic(auto, unfolding(crate::specs::Lookup::adjacent_of))]
 pub fn adjacent_of(plan: &[u16; 1024], link: u8) -> u16
     ensures { result ≡ Lookup.adjacent_of (plan_of plan) link }
 {
