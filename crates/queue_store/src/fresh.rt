@@ -17,6 +17,7 @@ fn empty(spans: &mut [u16; 70])
 }
 
 // The places of a ring from its first on hold the slots from `first` on.
+#[tactic(auto, unfolding(crate::specs::Fresh::ring_filled))]
 fn list(rings: &mut [u8; 8960], ring: u8, first: u8, size: u8)
     ensures { rings.new ≡ Fresh.ring_filled rings.old ring first size }
 {
@@ -32,6 +33,7 @@ fn list(rings: &mut [u8; 8960], ring: u8, first: u8, size: u8)
 }
 
 // Every slot is free: 0 to 191 in ring 33, 192 to 255 in ring 34.
+#[tactic(auto, unfolding(crate::specs::Fresh::fresh_spans, crate::specs::Fresh::fresh_rings))]
 pub fn fresh(spans: &mut [u16; 70], rings: &mut [u8; 8960])
     ensures spans_after { spans.new ≡ Fresh.fresh_spans spans.old }
     ensures rings_after { rings.new ≡ Fresh.fresh_rings rings.old }
