@@ -1,5 +1,5 @@
 // The line of what became of a message by a call.
-#![tactic(auto)]
+#![tactic(auto, unfolding(text_pages::specs::Page::puts))]
 
 ghost use Rattle.std.specs.Prelude.{◌≡◌, [], ◌∷◌};
 ghost use Rattle.text_decimals.specs.Decimal.{decimal_of};
