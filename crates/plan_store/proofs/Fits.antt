@@ -1,6 +1,6 @@
 -- A plan that a function is handed by value fits its words. Assumes nothing.
 use mathlib.Core.Path.{◌≡◌}
-use mathlib.Core.List.{List, [], ◌∷◌, map}
+use mathlib.Core.List.{List, [], ◌∷◌}
 use Prim.Native.Nat.{ℕ, zero, suc, ◌<◌}
 use native.Mathlib.Omega.{arith}
 use lib.ListN.{length, get_or}
@@ -11,7 +11,7 @@ use mir.Val.{Val}
 use denote.Array.{each}
 use denote.Laws.{Is}
 use denote.Shadow.{shadow}
-use denote.Struct.Declared.{Declared, row, field}
+use denote.Struct.Declared.{Declared, row}
 use Rattle.plan.specs.contracts.data.Plan as plan
 use Rattle.plan.specs.contracts.data.LinkSet as linkset
 use Rattle.plan.specs.contracts.data.Link as link
@@ -29,7 +29,7 @@ use Rattle.plan_store.specs.Fits.{SetFits, LinkFits, DestinationFits, Fits}
 -- what is known of each value of a type is known of the one at a place of an array
 at_place : (T : Declared) (P : T.D → Type 0) → ((x : T.D) (vs : List Val) → Is (row T) x vs → P x)
     → (items : List T.D) (us : List Val) (i : ℕ) (none : T.D) → i < length items
-    → shadow (each (field T).row.Denot (field T).row.own_val (map T.to items) us) → P (get_or items i none)
+    → shadow (each (row T).Denot (row T).own_val items us) → P (get_or items i none)
 at_place T P held [] us i none h s = absurd (omega arith)
 at_place T P held (x ∷ items) [] i none h s = absurd s
 at_place T P held (x ∷ items) (u ∷ us) zero none h s = held x (u ∷ []) s.0
