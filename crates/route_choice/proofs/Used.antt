@@ -7,7 +7,7 @@ use mathlib.Core.Logic.{◌⊎◌, inl, inr, ⊎_elim}
 use Prim.Native.Nat.{ℕ, zero, suc, ◌+◌, ◌%◌, ◌≤◌, ◌<◌}
 use native.Mathlib.Numerals.{add-one}
 use native.Mathlib.Omega.{arith}
-use lib.ListN.{length}
+use lib.ListN.{length, get_or}
 use borrow.Author.Count.{below_more}
 use borrow.Table.Steps.{cases}
 use Rattle.plan.specs.declared.data.Plan.{Plan}
@@ -16,6 +16,13 @@ use Rattle.plan.specs.Data.{routes_of}
 use Rattle.route_choice.specs.Which.{none, going_round, first_serving, some_serves, link_of_set, usable, chosen}
 use Rattle.route_choice.proofs.Ranks.{usable_some, onward, at_rank, past_ranks}
 use Rattle.route_choice.proofs.Serving.{some_round}
+
+-- none serves before a place that is one further on
+none_one_more : (serves : ℕ → Bool) (link : ℕ) (rest : List ℕ) (place : ℕ) → serves link ≡ false
+    → ((before : ℕ) → before < place → serves (get_or rest before none) ≡ false)
+    → (before : ℕ) → before < suc place → serves (get_or (link ∷ rest) before none) ≡ false
+none_one_more serves link rest place e passed zero h = e
+none_one_more serves link rest place e passed (suc k) h = passed k (omega arith)
 
 -- where some serve, the first that serves has a place
 first_in : (serves : ℕ → Bool) (turn : List ℕ) → some_serves serves turn ≡ true → First serves turn (first_serving serves turn)
@@ -39,7 +46,7 @@ first_in serves (link ∷ rest) some =
       in_turn = omega (arith, found.in_turn);
       stands_there = found.stands_there;
       serves_there = found.serves_there;
-      none_before = λ before. elim before [ zero ↦ λ h. e | suc k ↦ λ h. found.none_before k (omega arith) ];
+      none_before = none_one_more serves link rest found.place e found.none_before;
     }
 
 module _ (serves marked : ℕ → Bool) (plan : Plan) (destination : ℕ) where
