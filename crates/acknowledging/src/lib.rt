@@ -3,7 +3,6 @@
 
 ghost use Rattle.plan_words.specs.Words.{plan_of};
 ghost use Rattle.std.specs.Prelude.{◌≡◌};
-ghost use Rattle.replies.specs.Areas.{old, new};
 ghost use Rattle.queue_heads.specs.Head.{queues_before, queues_after};
 ghost use Rattle.acknowledging.specs.Acknowledge as Acknowledge;
 
@@ -16,8 +15,9 @@ use numbers::left_sent;
 use queue_retiring::retire;
 
 // The reply.
+#[tactic(auto, unfolding(crate::specs::Acknowledge::reply_of, replies::specs::Reply::first))]
 fn acknowledge_reply(plan: &[u16; 1024], links: &[u32; 256], link: u8, b: u8) -> u8
-    ensures { result ≡ Acknowledge.reply_of (plan_of plan) (old links) link b }
+    ensures { result ≡ Acknowledge.reply_of (plan_of plan) links.now link b }
 {
     if LINKS <= link {
         return 1;
@@ -39,6 +39,7 @@ fn acknowledge_reply(plan: &[u16; 1024], links: &[u32; 256], link: u8, b: u8) ->
 }
 
 // Level 2 acknowledges up to b.
+#[tactic(auto, unfolding(crate::specs::Acknowledge::links_after, crate::specs::Acknowledge::queues_after))]
 pub fn acknowledge(
     plan: &[u16; 1024],
     links: &mut [u32; 256],
@@ -47,9 +48,9 @@ pub fn acknowledge(
     link: u8,
     b: u8,
 ) -> u8
-    ensures value { result ≡ Acknowledge.reply_of (plan_of plan) (old links) link b }
-    ensures links_value { new links ≡ Acknowledge.links_after (plan_of plan) (old links) link b }
-    ensures rings_value { queues_after spans rings ≡ Acknowledge.queues_after (plan_of plan) (old links) (queues_before spans rings) link b }
+    ensures value { result ≡ Acknowledge.reply_of (plan_of plan) links.old link b }
+    ensures links_value { links.new ≡ Acknowledge.links_after (plan_of plan) links.old link b }
+    ensures rings_value { queues_after spans.new rings.new ≡ Acknowledge.queues_after (plan_of plan) links.old (queues_before spans.old rings.old) link b }
 {
     let reply = acknowledge_reply(plan, links, link, b);
     if 0 < reply {

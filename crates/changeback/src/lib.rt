@@ -3,7 +3,7 @@
 
 ghost use Rattle.plan_words.specs.Words.{plan_of};
 ghost use Rattle.std.specs.Prelude.{◌≡◌};
-ghost use Rattle.replies.specs.Areas.{old, Leaves, before, after};
+ghost use Rattle.replies.specs.Areas.{Leaves, before, after};
 ghost use Rattle.queue_joining.specs.Queue.{held_before, held_after};
 ghost use Rattle.changeback.specs.Service as Service;
 
@@ -27,9 +27,9 @@ fn declare(
     link: u8,
     from: Sources,
 ) -> u8
-    ensures value { result ≡ Service.declare_reply (old spans) (old arrivals) from }
-    ensures arrivals_value { held_after spans rings rows arrivals ≡
-        Service.declared (plan_of plan) link from (held_before spans rings rows arrivals) }
+    ensures value { result ≡ Service.declare_reply spans.old arrivals.old from }
+    ensures arrivals_value { held_after spans.new rings.new rows.new arrivals.new ≡
+        Service.declared (plan_of plan) link from (held_before spans.old rings.old rows.old arrivals.old) }
 {
     let own = from.own;
     if NO_LINK <= own {
@@ -59,8 +59,8 @@ pub fn into_service(
     link: u8,
     reports: &mut [u64],
 ) -> Answer
-    ensures { Leaves (Service.into_service (plan_of plan) (before links marks spans rings rows arrivals reports) link) result
-        (after links marks spans rings rows arrivals reports) }
+    ensures { Leaves (Service.into_service (plan_of plan) (before links.old marks.now spans.old rings.old rows.old arrivals.old reports.old) link) result
+        (after links.new marks.now spans.new rings.new rows.new arrivals.new reports.new) }
 {
     let reply = service_reply(plan, links, link, reports);
     if 0 < reply {

@@ -3,7 +3,7 @@
 
 ghost use Rattle.std.specs.Prelude.{◌≡◌, []};
 ghost use Rattle.plan_words.specs.Words.{plan_of};
-ghost use Rattle.replies.specs.Areas.{old, new, areas, Leaves};
+ghost use Rattle.replies.specs.Areas.{areas, Leaves};
 ghost use Rattle.changeback_waiting.specs.Wait as Wait;
 
 use area_links::{load_link, store_link};
@@ -78,8 +78,8 @@ pub fn answer_by(
     slc: u8,
     code: u8,
 ) -> Answer
-    ensures { Leaves (Wait.answered_by (plan_of plan) point slc code (areas (old links) [] [] [] [] [] [])) result
-        (areas (new links) [] [] [] [] [] []) }
+    ensures { Leaves (Wait.answered_by (plan_of plan) point slc code (areas links.old [] [] [] [] [] [])) result
+        (areas links.new [] [] [] [] [] []) }
 {
     if !answers(plan, links, point, slc, code) {
         return plain(11);

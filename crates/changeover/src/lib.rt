@@ -15,6 +15,7 @@ use management_making::make;
 use replies::{Answer, done, plain};
 
 // An open link fails: a COO and T2, or T1.
+#[tactic(auto, unfolding(crate::specs::Fail::open_failed, crate::specs::Fail::timer_of))]
 fn fail_open(
     plan: &[u16; 1024],
     links: &mut [u32; 256],
@@ -26,8 +27,8 @@ fn fail_open(
     link: u8,
     reports: &[u64],
 ) -> Answer
-    ensures { Leaves (Fail.open_failed (plan_of plan) (before links marks spans rings rows arrivals reports) link) result
-        (after links marks spans rings rows arrivals reports) }
+    ensures { Leaves (Fail.open_failed (plan_of plan) (before links.old marks.now spans.old rings.old rows.old arrivals.old reports.now) link) result
+        (after links.new marks.now spans.new rings.new rows.new arrivals.new reports.now) }
 {
     let order = order_of(plan, links, link);
     let sent = make(plan, links, marks, spans, rings, rows, arrivals, order);
@@ -37,6 +38,7 @@ fn fail_open(
 }
 
 // The link fails.
+#[tactic(auto, unfolding(crate::specs::Fail::failed, changeover_ending::specs::End::out_of_service))]
 pub fn fail(
     plan: &[u16; 1024],
     links: &mut [u32; 256],
@@ -48,8 +50,8 @@ pub fn fail(
     link: u8,
     reports: &mut [u64],
 ) -> Answer
-    ensures { Leaves (Fail.failed (plan_of plan) (before links marks spans rings rows arrivals reports) link) result
-        (after links marks spans rings rows arrivals reports) }
+    ensures { Leaves (Fail.failed (plan_of plan) (before links.old marks.now spans.old rings.old rows.old arrivals.old reports.old) link) result
+        (after links.new marks.now spans.new rings.new rows.new arrivals.new reports.new) }
 {
     let reply = fail_reply(plan, links, link, reports);
     if 0 < reply {

@@ -3,7 +3,6 @@
 
 ghost use Rattle.plan_words.specs.Words.{plan_of};
 ghost use Rattle.std.specs.Prelude.{◌≡◌};
-ghost use Rattle.replies.specs.Areas.{old, new};
 ghost use Rattle.queue_retiring.specs.Leave.{state_before, state_after};
 ghost use Rattle.changeover_ending.specs.End as End;
 
@@ -26,8 +25,8 @@ fn clear(
     reports: &mut [u64],
     told: usize,
 ) -> usize
-    ensures { state_after spans rings reports result ≡
-        End.cleared (plan_of plan) (old links) (old marks) (old rows) link parts (state_before spans rings reports told) }
+    ensures { state_after spans.new rings.new reports.new result ≡
+        End.cleared (plan_of plan) links.now marks.now rows.now link parts (state_before spans.old rings.old reports.old told) }
 {
     retire(spans, rings, link, parts.retired);
     let dropped = drop_first(spans, rings, rows, link, parts.dropped, 2, reports, told);
@@ -48,9 +47,9 @@ pub fn end_service(
     parts: Cut,
     reports: &mut [u64],
 ) -> usize
-    ensures result_value { state_after spans rings reports result ≡
-        End.ended (plan_of plan) (old links) (old marks) (old rows) link parts (state_before spans rings reports 0) }
-    ensures links_value { new links ≡ End.links_out (old links) link }
+    ensures result_value { state_after spans.new rings.new reports.new result ≡
+        End.ended (plan_of plan) links.old marks.now rows.now link parts (state_before spans.old rings.old reports.old 0) }
+    ensures links_value { links.new ≡ End.links_out links.old link }
 {
     let before = accesses(plan, links, marks);
     let known = load_link(links, link);

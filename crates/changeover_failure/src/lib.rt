@@ -14,6 +14,7 @@ use reports::short;
 use wire_messages::management::Message;
 
 // The reply to a link's failure.
+#[tactic(auto, unfolding(crate::specs::Failure::reply_of, replies::specs::Reply::first))]
 pub fn fail_reply(plan: &[u16; 1024], links: &[u32; 256], link: u8, reports: &[u64]) -> u8
     ensures { result ≡ Failure.reply_of (plan_of plan) links.now link reports.now }
 {
@@ -37,6 +38,7 @@ pub fn fail_reply(plan: &[u16; 1024], links: &[u32; 256], link: u8, reports: &[u
 }
 
 // The COO of a link.
+#[tactic(auto, unfolding(crate::specs::Failure::order_of))]
 pub fn order_of(plan: &[u16; 1024], links: &[u32; 256], link: u8) -> Draft
     ensures { result ≡ Failure.order_of (plan_of plan) links.now link }
 {
@@ -66,6 +68,7 @@ pub fn changing(known: LinkRecord, told: bool) -> LinkRecord
 }
 
 // The reply to the expiry of T1 or T2.
+#[tactic(auto, unfolding(crate::specs::Overdue::reply_of, replies::specs::Reply::first))]
 pub fn expire_reply(
     plan: &[u16; 1024],
     links: &[u32; 256],

@@ -12,6 +12,7 @@ use changeover_failure::expire_reply;
 use replies::{Answer, done, plain};
 
 // T1 or T2 of a link expires.
+#[tactic(auto, unfolding(crate::specs::Expire::expired, changeover_ending::specs::End::out_of_service))]
 pub fn expire(
     plan: &[u16; 1024],
     links: &mut [u32; 256],
@@ -23,8 +24,8 @@ pub fn expire(
     timer: u8,
     reports: &mut [u64],
 ) -> Answer
-    ensures { Leaves (Expire.expired (plan_of plan) (before_unnumbered links marks spans rings rows reports) link timer) result
-        (after_unnumbered links marks spans rings rows reports) }
+    ensures { Leaves (Expire.expired (plan_of plan) (before_unnumbered links.old marks.now spans.old rings.old rows.now reports.old) link timer) result
+        (after_unnumbered links.new marks.now spans.new rings.new rows.now reports.new) }
 {
     let reply = expire_reply(plan, links, link, timer, reports);
     if 0 < reply {

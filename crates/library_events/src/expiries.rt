@@ -26,8 +26,8 @@ pub extern "C" fn transfer_point_expire_lent(
     timer: u8,
     reports: &mut [u64],
 ) -> Answer
-    ensures { Leaves (Changeover.expired (plan_of plan) (before_unnumbered links marks spans rings rows reports) link timer) result
-        (after_unnumbered links marks spans rings rows reports) }
+    ensures { Leaves (Changeover.expired (plan_of plan) (before_unnumbered links.old marks.now spans.old rings.old rows.now reports.old) link timer) result
+        (after_unnumbered links.new marks.now spans.new rings.new rows.now reports.new) }
 {
     expire(plan, links, marks, spans, rings, rows, link, timer, reports)
 }
@@ -58,8 +58,8 @@ pub extern "C" fn transfer_point_expire_t6_lent(
     x: u16,
     reports: &mut [u64],
 ) -> Answer
-    ensures { Leaves (Rerouting.expired_t6 (plan_of plan) (before_unnumbered links marks spans rings rows reports) x) result
-        (after_unnumbered links marks spans rings rows reports) }
+    ensures { Leaves (Rerouting.expired_t6 (plan_of plan) (before_unnumbered links.now marks.old spans.old rings.old rows.now reports.old) x) result
+        (after_unnumbered links.now marks.new spans.new rings.new rows.now reports.new) }
 {
     expire_t6(plan, links, marks, spans, rings, rows, x, reports)
 }
@@ -90,8 +90,8 @@ pub extern "C" fn transfer_point_expire_t10_lent(
     x: u16,
     set: u8,
 ) -> Answer
-    ensures { Leaves (Rerouting.expired_t10 (plan_of plan) (before_unreported links marks spans rings rows arrivals) x set) result
-        (after_unreported links marks spans rings rows arrivals) }
+    ensures { Leaves (Rerouting.expired_t10 (plan_of plan) (before_unreported links.now marks.now spans.old rings.old rows.old arrivals.old) x set) result
+        (after_unreported links.now marks.now spans.new rings.new rows.new arrivals.new) }
 {
     expire_t10(plan, links, marks, spans, rings, rows, arrivals, x, set)
 }

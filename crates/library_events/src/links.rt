@@ -21,8 +21,8 @@ pub extern "C" fn transfer_point_into_service_lent(
     link: u8,
     reports: &mut [u64],
 ) -> Answer
-    ensures { Leaves (Service.into_service (plan_of plan) (before links marks spans rings rows arrivals reports) link) result
-        (after links marks spans rings rows arrivals reports) }
+    ensures { Leaves (Service.into_service (plan_of plan) (before links.old marks.now spans.old rings.old rows.old arrivals.old reports.old) link) result
+        (after links.new marks.now spans.new rings.new rows.new arrivals.new reports.new) }
 {
     into_service(
         plan, links, marks, spans, rings, rows, arrivals, link, reports,
@@ -42,8 +42,8 @@ pub extern "C" fn transfer_point_fail_lent(
     link: u8,
     reports: &mut [u64],
 ) -> Answer
-    ensures { Leaves (Fail.failed (plan_of plan) (before links marks spans rings rows arrivals reports) link) result
-        (after links marks spans rings rows arrivals reports) }
+    ensures { Leaves (Fail.failed (plan_of plan) (before links.old marks.now spans.old rings.old rows.old arrivals.old reports.old) link) result
+        (after links.new marks.now spans.new rings.new rows.new arrivals.new reports.new) }
 {
     fail(
         plan, links, marks, spans, rings, rows, arrivals, link, reports,

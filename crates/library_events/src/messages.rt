@@ -25,10 +25,10 @@ pub extern "C" fn transfer_point_receive_lent(
     message: &[u8],
     reports: &mut [u64],
 ) -> Answer
-    ensures leaves { Leaves (Receive.received (plan_of plan) link fsn message.now (before links marks spans rings rows arrivals reports))
-        result (after links marks spans rings rows arrivals reports) }
+    ensures leaves { Leaves (Receive.received (plan_of plan) link fsn message.now (before links.old marks.old spans.old rings.old rows.old arrivals.old reports.old))
+        result (after links.new marks.new spans.new rings.new rows.new arrivals.new reports.new) }
     ensures octets_after { octets.new ≡
-        Receive.octets_received (plan_of plan) link fsn message.now (before links marks spans rings rows arrivals reports)
+        Receive.octets_received (plan_of plan) link fsn message.now (before links.old marks.old spans.old rings.old rows.old arrivals.old reports.old)
         octets.old }
 {
     receive(
@@ -49,10 +49,10 @@ pub extern "C" fn transfer_point_send_host_lent(
     arrivals: &mut [u64; 1],
     message: &[u8],
 ) -> Answer
-    ensures leaves { Leaves (Host.sent (plan_of plan) message.now (before_unreported links marks spans rings rows arrivals)) result
-        (after_unreported links marks spans rings rows arrivals) }
+    ensures leaves { Leaves (Host.sent (plan_of plan) message.now (before_unreported links.now marks.now spans.old rings.old rows.old arrivals.old)) result
+        (after_unreported links.now marks.now spans.new rings.new rows.new arrivals.new) }
     ensures octets_after { octets.new ≡
-        Host.octets_sent (plan_of plan) message.now (before_unreported links marks spans rings rows arrivals) octets.old }
+        Host.octets_sent (plan_of plan) message.now (before_unreported links.now marks.now spans.old rings.old rows.old arrivals.old) octets.old }
 {
     send_host(
         plan, links, marks, spans, rings, rows, octets, arrivals, message,

@@ -3,7 +3,6 @@
 
 ghost use Rattle.std.specs.Prelude.{◌≡◌, length};
 ghost use Rattle.plan_words.specs.Words.{plan_of};
-ghost use Rattle.replies.specs.Areas.{old, new};
 ghost use Rattle.sending.specs.Send as Send;
 ghost use Rattle.queue_heads.specs.Head.{queues_before, queues_after};
 ghost use Rattle.acknowledging.specs.Acknowledge as Acknowledge;
@@ -24,9 +23,9 @@ pub extern "C" fn transfer_point_send_lent(
     link: u8,
     out: &mut [u8],
 ) -> Answer
-    ensures value { result ≡ Send.answer_of (plan_of plan) (old links) (old spans) (old rings) (old rows) link (old out) }
-    ensures links_value { new links ≡ Send.links_after (plan_of plan) (old links) (old spans) link (length (old out)) }
-    ensures out_value { new out ≡ Send.out_after (plan_of plan) (old links) (old spans) (old rings) (old rows) (old octets) link (old out) }
+    ensures value { result ≡ Send.answer_of (plan_of plan) links.old spans.now rings.now rows.now link out.old }
+    ensures links_value { links.new ≡ Send.links_after (plan_of plan) links.old spans.now link (length out.old) }
+    ensures out_value { out.new ≡ Send.out_after (plan_of plan) links.old spans.now rings.now rows.now octets.now link out.old }
 {
     send(plan, links, spans, rings, rows, octets, link, out)
 }
@@ -41,9 +40,9 @@ pub extern "C" fn transfer_point_acknowledge_lent(
     link: u8,
     b: u8,
 ) -> u8
-    ensures value { result ≡ Acknowledge.reply_of (plan_of plan) (old links) link b }
-    ensures links_value { new links ≡ Acknowledge.links_after (plan_of plan) (old links) link b }
-    ensures rings_value { queues_after spans rings ≡ Acknowledge.queues_after (plan_of plan) (old links) (queues_before spans rings) link b }
+    ensures value { result ≡ Acknowledge.reply_of (plan_of plan) links.old link b }
+    ensures links_value { links.new ≡ Acknowledge.links_after (plan_of plan) links.old link b }
+    ensures rings_value { queues_after spans.new rings.new ≡ Acknowledge.queues_after (plan_of plan) links.old (queues_before spans.old rings.old) link b }
 {
     acknowledge(plan, links, spans, rings, link, b)
 }

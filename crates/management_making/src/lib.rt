@@ -3,7 +3,6 @@
 
 ghost use Rattle.plan_words.specs.Words.{plan_of};
 ghost use Rattle.std.specs.Prelude.{◌≡◌};
-ghost use Rattle.replies.specs.Areas.{old};
 ghost use Rattle.queue_joining.specs.Queue.{held_before, held_after};
 ghost use Rattle.management_making.specs.Make as Make;
 
@@ -28,6 +27,7 @@ pub struct Made {
     pub made: bool,
 }
 
+#[tactic(auto, unfolding(crate::specs::Make::path_of, crate::specs::Make::reply_of, crate::specs::Make::is_made, crate::specs::Make::made))]
 pub fn make(
     plan: &[u16; 1024],
     links: &[u32; 256],
@@ -38,9 +38,9 @@ pub fn make(
     arrivals: &mut [u64; 1],
     draft: Draft,
 ) -> Made
-    ensures value { result ≡ Make.outcome (plan_of plan) (old links) (old marks) (old spans) (old arrivals) draft }
-    ensures arrivals_value { held_after spans rings rows arrivals ≡
-        Make.made (plan_of plan) (old links) (old marks) draft (held_before spans rings rows arrivals) }
+    ensures value { result ≡ Make.outcome (plan_of plan) links.now marks.now spans.old arrivals.old draft }
+    ensures arrivals_value { held_after spans.new rings.new rows.new arrivals.new ≡
+        Make.made (plan_of plan) links.now marks.now draft (held_before spans.old rings.old rows.old arrivals.old) }
 {
     let need = for_management(draft.never);
     let path = way(plan, links, marks, need, draft.point, draft.slc);

@@ -24,8 +24,8 @@ fn give_answer(
     step: Step,
     reports: &[u64],
 ) -> u8
-    ensures { Leaves (Carry.answered (plan_of plan) step (before links marks spans rings rows arrivals reports)) (plain result)
-        (after links marks spans rings rows arrivals reports) }
+    ensures { Leaves (Carry.answered (plan_of plan) step (before links.now marks.now spans.old rings.old rows.old arrivals.old reports.now)) (plain result)
+        (after links.now marks.now spans.new rings.new rows.new arrivals.new reports.now) }
 {
     if !step.answers {
         return 0;
@@ -47,8 +47,8 @@ pub fn carry_out(
     step: Step,
     reports: &mut [u64],
 ) -> Answer
-    ensures { Leaves (Carry.carried (plan_of plan) step (before links marks spans rings rows arrivals reports)) result
-        (after links marks spans rings rows arrivals reports) }
+    ensures { Leaves (Carry.carried (plan_of plan) step (before links.old marks.now spans.old rings.old rows.old arrivals.old reports.old)) result
+        (after links.new marks.now spans.new rings.new rows.new arrivals.new reports.new) }
 {
     if 0 < step.reply {
         return plain(step.reply);

@@ -3,7 +3,7 @@
 
 ghost use Rattle.plan_words.specs.Words.{plan_of};
 ghost use Rattle.std.specs.Prelude.{◌≡◌};
-ghost use Rattle.replies.specs.Areas.{old, Leaves, before, after};
+ghost use Rattle.replies.specs.Areas.{Leaves, before, after};
 ghost use Rattle.managing.specs.Managed as Managed;
 
 use changeback_waiting::answer_by;
@@ -43,7 +43,7 @@ fn ask(
     fsn: u8,
     order: Order,
 ) -> Effect
-    ensures { result ≡ Managed.asked (plan_of plan) (old links) (old marks) arriving fsn order.point order.slc order.message }
+    ensures { result ≡ Managed.asked (plan_of plan) links.now marks.now arriving fsn order.point order.slc order.message }
 {
     let point = order.point;
     let slc = order.slc;
@@ -82,8 +82,8 @@ pub fn manage(
     reports: &mut [u64],
 ) -> Answer
     ensures { Leaves
-        (Managed.managed (plan_of plan) arriving fsn order.point order.slc order.message (before links marks spans rings rows arrivals reports)) result
-        (after links marks spans rings rows arrivals reports) }
+        (Managed.managed (plan_of plan) arriving fsn order.point order.slc order.message (before links.old marks.old spans.old rings.old rows.old arrivals.old reports.old)) result
+        (after links.new marks.new spans.new rings.new rows.new arrivals.new reports.new) }
 {
     match ask(plan, links, marks, arriving, fsn, order) {
         Effect::Carries(step) => carry_out(

@@ -1,7 +1,7 @@
 -- Everything that a call can change: the areas, the octets of user messages, and the lent output.
 use Rattle.std.specs.Prelude.{ℕ, ◌≡◌, List}
 use Rattle.replies.specs.declared.Answer.{Answer}
-use Rattle.replies.specs.Areas.{Areas, Lent, Outcome, before, after}
+use Rattle.replies.specs.Areas.{Areas, Outcome, before, after}
 
 pub record Memory : Type 0 where
   pub areas : Areas
@@ -12,13 +12,13 @@ abbrev pub memory : Areas → List ℕ → List ℕ → Memory
 memory areas octets out = record { areas = areas; octets = octets; out = out }
 
 -- all that is lent to a call, as it stands before it and after it
-abbrev pub memory_before : Lent → Lent → Lent → Lent → Lent → Lent → Lent → Lent → Lent → Memory
+abbrev pub memory_before : List ℕ → List ℕ → List ℕ → List ℕ → List ℕ → List ℕ → List ℕ → List ℕ → List ℕ → Memory
 memory_before links marks spans rings rows arrivals reports octets out =
-    memory (before links marks spans rings rows arrivals reports) octets.entry.now out.entry.now
+    memory (before links marks spans rings rows arrivals reports) octets out
 
-abbrev pub memory_after : Lent → Lent → Lent → Lent → Lent → Lent → Lent → Lent → Lent → Memory
+abbrev pub memory_after : List ℕ → List ℕ → List ℕ → List ℕ → List ℕ → List ℕ → List ℕ → List ℕ → List ℕ → Memory
 memory_after links marks spans rings rows arrivals reports octets out =
-    memory (after links marks spans rings rows arrivals reports) octets.exit.now out.exit.now
+    memory (after links marks spans rings rows arrivals reports) octets out
 
 -- what a call answers, and the memory after it
 pub record Result : Type 0 where

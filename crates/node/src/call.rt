@@ -53,8 +53,8 @@ pub fn call(
     reports: &mut [u64],
 ) -> Answer
     ensures { Gives
-        (call_of (plan_of plan) event message.now (memory_before links marks spans rings rows arrivals reports octets out)) result
-        (memory_after links marks spans rings rows arrivals reports octets out) }
+        (call_of (plan_of plan) event message.now (memory_before links.old marks.old spans.old rings.old rows.old arrivals.old reports.old octets.old out.old)) result
+        (memory_after links.new marks.new spans.new rings.new rows.new arrivals.new reports.new octets.new out.new) }
 {
     match event {
         Event::IntoService(link) => into_service(

@@ -3,7 +3,7 @@
 
 ghost use Rattle.plan_words.specs.Words.{plan_of};
 ghost use Rattle.std.specs.Prelude.{◌≡◌, length};
-ghost use Rattle.replies.specs.Areas.{old, new, Leaves, before, after};
+ghost use Rattle.replies.specs.Areas.{Leaves, before, after};
 ghost use Rattle.passing.specs.Pass as Pass;
 
 use constants::NO_LINK;
@@ -27,8 +27,8 @@ fn not_reached(
     x: u16,
     reports: &[u64],
 ) -> Answer
-    ensures { Leaves (Pass.not_reached (plan_of plan) arriving x (before links marks spans rings rows arrivals reports)) result
-        (after links marks spans rings rows arrivals reports) }
+    ensures { Leaves (Pass.not_reached (plan_of plan) arriving x (before links.now marks.old spans.old rings.old rows.old arrivals.old reports.now)) result
+        (after links.now marks.new spans.new rings.new rows.new arrivals.new reports.now) }
 {
     let due = tells(plan, marks, x);
     if !due {
@@ -60,10 +60,10 @@ pub fn pass_on(
     message: &[u8],
     reports: &[u64],
 ) -> Answer
-    ensures leaves { Leaves (Pass.passed (plan_of plan) arriving label (length (old message)) (before links marks spans rings rows arrivals reports)) result
-        (after links marks spans rings rows arrivals reports) }
-    ensures octets_value { new octets ≡
-        Pass.octets_passed (plan_of plan) label (before links marks spans rings rows arrivals reports) (old octets) (old message) }
+    ensures leaves { Leaves (Pass.passed (plan_of plan) arriving label (length message.now) (before links.now marks.old spans.old rings.old rows.old arrivals.old reports.now)) result
+        (after links.now marks.new spans.new rings.new rows.new arrivals.new reports.now) }
+    ensures octets_value { octets.new ≡
+        Pass.octets_passed (plan_of plan) label (before links.now marks.old spans.old rings.old rows.old arrivals.old reports.now) octets.old message.now }
 {
     let to = directed(plan, links, marks, for_users(), label.dpc, label.sls);
     if NO_LINK <= to.link {

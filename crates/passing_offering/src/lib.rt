@@ -3,7 +3,7 @@
 
 ghost use Rattle.plan_words.specs.Words.{plan_of};
 ghost use Rattle.std.specs.Prelude.{◌≡◌, [], length};
-ghost use Rattle.replies.specs.Areas.{old, new, Leaves, before_unreported, after_unreported};
+ghost use Rattle.replies.specs.Areas.{Leaves, before_unreported, after_unreported};
 ghost use Rattle.passing_offering.specs.Host as Host;
 
 use constants::NO_LINK;
@@ -28,10 +28,10 @@ fn offer(
     label: Label,
     message: &[u8],
 ) -> Answer
-    ensures leaves { Leaves (Host.offered (plan_of plan) label (length (old message)) (before_unreported links marks spans rings rows arrivals)) result
-        (after_unreported links marks spans rings rows arrivals) }
-    ensures octets_value { new octets ≡
-        Host.octets_offered (plan_of plan) label (before_unreported links marks spans rings rows arrivals) (old octets) (old message) }
+    ensures leaves { Leaves (Host.offered (plan_of plan) label (length message.now) (before_unreported links.now marks.now spans.old rings.old rows.old arrivals.old)) result
+        (after_unreported links.now marks.now spans.new rings.new rows.new arrivals.new) }
+    ensures octets_value { octets.new ≡
+        Host.octets_offered (plan_of plan) label (before_unreported links.now marks.now spans.old rings.old rows.old arrivals.old) octets.old message.now }
 {
     if label.dpc == code(plan) {
         return plain(9);
@@ -58,10 +58,10 @@ pub fn send_host(
     arrivals: &mut [u64; 1],
     message: &[u8],
 ) -> Answer
-    ensures leaves { Leaves (Host.sent (plan_of plan) (old message) (before_unreported links marks spans rings rows arrivals)) result
-        (after_unreported links marks spans rings rows arrivals) }
-    ensures octets_value { new octets ≡
-        Host.octets_sent (plan_of plan) (old message) (before_unreported links marks spans rings rows arrivals) (old octets) }
+    ensures leaves { Leaves (Host.sent (plan_of plan) message.now (before_unreported links.now marks.now spans.old rings.old rows.old arrivals.old)) result
+        (after_unreported links.now marks.now spans.new rings.new rows.new arrivals.new) }
+    ensures octets_value { octets.new ≡
+        Host.octets_sent (plan_of plan) message.now (before_unreported links.now marks.now spans.old rings.old rows.old arrivals.old) octets.old }
 {
     if !given(plan) {
         return plain(2);

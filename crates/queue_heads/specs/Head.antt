@@ -1,7 +1,6 @@
 -- The head of a ring: moved to the end of another, or given up.
 use Rattle.std.specs.Prelude.{ℕ, zero, suc, cond, List, ltb}
 use Rattle.constants.specs.Constants.{free_user_ring, free_management_ring}
-use Rattle.replies.specs.Areas.{Lent, old, new}
 use Rattle.queue_rings.specs.declared.ring.Taken.{Taken}
 use Rattle.queue_rings.specs.Ring.{take_of}
 use Rattle.queue_rings.specs.Move.{spans_moved, rings_moved}
@@ -15,11 +14,11 @@ abbrev pub both : List ℕ → List ℕ → Queues
 both spans rings = record { spans = spans; rings = rings }
 
 -- those lent to a call, as they stand before it and after it
-abbrev pub queues_before : Lent → Lent → Queues
-queues_before spans rings = both (old spans) (old rings)
+abbrev pub queues_before : List ℕ → List ℕ → Queues
+queues_before spans rings = both spans rings
 
-abbrev pub queues_after : Lent → Lent → Queues
-queues_after spans rings = both (new spans) (new rings)
+abbrev pub queues_after : List ℕ → List ℕ → Queues
+queues_after spans rings = both spans rings
 
 -- the head of a ring, if it has one
 unfoldable pub head_of : Queues → ℕ → Taken

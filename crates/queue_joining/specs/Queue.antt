@@ -7,7 +7,6 @@ use Rattle.queue_slots.specs.Message.{user_rows, management_rows}
 use Rattle.queue_slots.specs.Message as Written
 use Rattle.wire_messages.specs.declared.management.Message.{Message}
 use Rattle.wire_messages.specs.Management.{heading_of, field_of}
-use Rattle.replies.specs.Areas.{Lent, old, new}
 use Rattle.replies.specs.Reply.{Row, row, first, if_done}
 use Rattle.queue_heads.specs.Head.{Queues, both, head_of, moved}
 
@@ -21,11 +20,11 @@ abbrev pub held : List ℕ → List ℕ → List ℕ → List ℕ → Held
 held spans rings rows arrivals = record { queues = both spans rings; rows = rows; arrivals = arrivals }
 
 -- those lent to a call, as they stand before it and after it
-abbrev pub held_before : Lent → Lent → Lent → Lent → Held
-held_before spans rings rows arrivals = held (old spans) (old rings) (old rows) (old arrivals)
+abbrev pub held_before : List ℕ → List ℕ → List ℕ → List ℕ → Held
+held_before spans rings rows arrivals = held spans rings rows arrivals
 
-abbrev pub held_after : Lent → Lent → Lent → Lent → Held
-held_after spans rings rows arrivals = held (new spans) (new rings) (new rows) (new arrivals)
+abbrev pub held_after : List ℕ → List ℕ → List ℕ → List ℕ → Held
+held_after spans rings rows arrivals = held spans rings rows arrivals
 
 -- the next arrival number
 abbrev pub next_of : List ℕ → ℕ

@@ -2,7 +2,6 @@
 #![tactic(auto)]
 
 ghost use Rattle.std.specs.Prelude.{◌≡◌, length};
-ghost use Rattle.replies.specs.Areas.{old, new};
 ghost use Rattle.queue_heads.specs.Head.{queues_before};
 ghost use Rattle.queue_joining.specs.Queue.{held_before, held_after};
 ghost use Rattle.queue_joining.specs.Queue as Queue;
@@ -26,10 +25,10 @@ pub fn queue_user(
     sls: u8,
     message: &[u8],
 ) -> u8
-    ensures value { result ≡ Queue.user_reply (old spans) (old arrivals) }
-    ensures arrivals_value { held_after spans rings rows arrivals ≡
-        Queue.with_user ring point sls (length (old message)) (held_before spans rings rows arrivals) }
-    ensures octets_value { new octets ≡ Queue.user_octets (queues_before spans rings) (old arrivals) (old octets) (old message) }
+    ensures value { result ≡ Queue.user_reply spans.old arrivals.old }
+    ensures arrivals_value { held_after spans.new rings.new rows.new arrivals.new ≡
+        Queue.with_user ring point sls (length message.now) (held_before spans.old rings.old rows.old arrivals.old) }
+    ensures octets_value { octets.new ≡ Queue.user_octets (queues_before spans.old rings.old) arrivals.old octets.old message.now }
 {
     if count(spans, FREE_USER) == 0 {
         return 7;
@@ -64,9 +63,9 @@ pub fn queue_management(
     point: u16,
     slc: u8,
 ) -> u8
-    ensures value { result ≡ Queue.management_reply (old spans) (old arrivals) }
-    ensures arrivals_value { held_after spans rings rows arrivals ≡
-        Queue.with_management ring message point slc (held_before spans rings rows arrivals) }
+    ensures value { result ≡ Queue.management_reply spans.old arrivals.old }
+    ensures arrivals_value { held_after spans.new rings.new rows.new arrivals.new ≡
+        Queue.with_management ring message point slc (held_before spans.old rings.old rows.old arrivals.old) }
 {
     if count(spans, FREE_MANAGEMENT) == 0 {
         return 8;

@@ -3,7 +3,6 @@
 
 ghost use Rattle.plan_words.specs.Words.{plan_of};
 ghost use Rattle.std.specs.Prelude.{◌≡◌};
-ghost use Rattle.replies.specs.Areas.{old};
 ghost use Rattle.queue_retiring.specs.Leave.{state_before, state_after};
 ghost use Rattle.queue_moving.specs.Move as Move;
 
@@ -15,6 +14,7 @@ use queue_rings::ring::{at, count};
 use route_ways::{for_management, for_users, way};
 
 // The link that the message in a slot goes to, 32 where it has none.
+#[tactic(auto, unfolding(crate::specs::Move::goes_to))]
 fn goes_to(
     plan: &[u16; 1024],
     links: &[u32; 256],
@@ -22,7 +22,7 @@ fn goes_to(
     rows: &[u64; 2048],
     slot: u8,
 ) -> u8
-    ensures { result ≡ Move.goes_to (plan_of plan) (old links) (old marks) (old rows) slot }
+    ensures { result ≡ Move.goes_to (plan_of plan) links.now marks.now rows.now slot }
 {
     let known = load_slot(rows, slot);
     let point = (known.point % 16384) as u16;
@@ -35,6 +35,7 @@ fn goes_to(
 }
 
 // The first message of a ring moves, or is dropped with reason 1; how many reports there are now.
+#[tactic(auto, unfolding(crate::specs::Move::moved_one, queue_heads::specs::Head::head_of, queue_rings::specs::Ring::take_of))]
 pub fn move_one(
     plan: &[u16; 1024],
     links: &[u32; 256],
@@ -46,8 +47,8 @@ pub fn move_one(
     reports: &mut [u64],
     told: usize,
 ) -> usize
-    ensures { state_after spans rings reports result ≡
-        Move.moved_one (plan_of plan) (old links) (old marks) (old rows) ring (state_before spans rings reports told) }
+    ensures { state_after spans.new rings.new reports.new result ≡
+        Move.moved_one (plan_of plan) links.now marks.now rows.now ring (state_before spans.old rings.old reports.old told) }
 {
     let head = at(spans, rings, ring, 0);
     if !head.found {
@@ -62,6 +63,7 @@ pub fn move_one(
 }
 
 // All messages of a ring move; how many reports there are now.
+#[tactic(auto, unfolding(crate::specs::Move::moved_all))]
 pub fn move_all(
     plan: &[u16; 1024],
     links: &[u32; 256],
@@ -73,8 +75,8 @@ pub fn move_all(
     reports: &mut [u64],
     told: usize,
 ) -> usize
-    ensures { state_after spans rings reports result ≡
-        Move.moved_all (plan_of plan) (old links) (old marks) (old rows) ring (state_before spans rings reports told) }
+    ensures { state_after spans.new rings.new reports.new result ≡
+        Move.moved_all (plan_of plan) links.now marks.now rows.now ring (state_before spans.old rings.old reports.old told) }
 {
     let mut left = count(spans, ring);
     let mut reported = told;

@@ -1,7 +1,6 @@
 -- Messages that leave a queue for good: retired, or dropped with a report.
 use Rattle.std.specs.Prelude.{ℕ, cond, List}
 use Rattle.area_slots.specs.SlotRows.{slot_at}
-use Rattle.replies.specs.Areas.{Lent, old, new}
 use Rattle.reports.specs.Report.{Log, log, told}
 use Rattle.queue_heads.specs.Head.{Queues, both, head_of, freed, repeat}
 
@@ -14,11 +13,11 @@ abbrev pub state : List ℕ → List ℕ → List ℕ → ℕ → State
 state spans rings area count = record { queues = both spans rings; log = log area count }
 
 -- that of the areas lent to a call, as they stand before it and after it, with so many reports
-abbrev pub state_before : Lent → Lent → Lent → ℕ → State
-state_before spans rings reports count = state (old spans) (old rings) (old reports) count
+abbrev pub state_before : List ℕ → List ℕ → List ℕ → ℕ → State
+state_before spans rings reports count = state spans rings reports count
 
-abbrev pub state_after : Lent → Lent → Lent → ℕ → State
-state_after spans rings reports count = state (new spans) (new rings) (new reports) count
+abbrev pub state_after : List ℕ → List ℕ → List ℕ → ℕ → State
+state_after spans rings reports count = state spans rings reports count
 
 -- "Messages up to B are retired" (R109): the first so many of a ring
 unfoldable pub retired : ℕ → ℕ → Queues → Queues

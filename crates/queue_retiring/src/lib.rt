@@ -2,7 +2,6 @@
 #![tactic(auto)]
 
 ghost use Rattle.std.specs.Prelude.{◌≡◌};
-ghost use Rattle.replies.specs.Areas.{old};
 ghost use Rattle.queue_heads.specs.Head.{queues_before, queues_after};
 ghost use Rattle.queue_retiring.specs.Leave.{state_before, state_after};
 ghost use Rattle.queue_retiring.specs.Leave as Leave;
@@ -14,7 +13,7 @@ use reports::report;
 // The first messages of a ring are retired.
 #[tactic(auto, unfolding(crate::specs::Leave::retired))]
 pub fn retire(spans: &mut [u16; 70], rings: &mut [u8; 8960], ring: u8, many: u8)
-    ensures { queues_after spans rings ≡ Leave.retired ring many (queues_before spans rings) }
+    ensures { queues_after spans.new rings.new ≡ Leave.retired ring many (queues_before spans.old rings.old) }
 {
     let mut left = many;
     while 0 < left {
@@ -34,7 +33,7 @@ pub fn drop_head(
     reports: &mut [u64],
     count: usize,
 ) -> usize
-    ensures { state_after spans rings reports result ≡ Leave.dropped_one (old rows) ring reason (state_before spans rings reports count) }
+    ensures { state_after spans.new rings.new reports.new result ≡ Leave.dropped_one rows.now ring reason (state_before spans.old rings.old reports.old count) }
 {
     let head = free_head(spans, rings, ring);
     if !head.found {
@@ -56,7 +55,7 @@ pub fn drop_first(
     reports: &mut [u64],
     count: usize,
 ) -> usize
-    ensures { state_after spans rings reports result ≡ Leave.dropped (old rows) ring reason many (state_before spans rings reports count) }
+    ensures { state_after spans.new rings.new reports.new result ≡ Leave.dropped rows.now ring reason many (state_before spans.old rings.old reports.old count) }
 {
     let mut more = many;
     let mut told = count;

@@ -3,7 +3,7 @@
 
 ghost use Rattle.plan_words.specs.Words.{plan_of};
 ghost use Rattle.std.specs.Prelude.{◌≡◌, length};
-ghost use Rattle.replies.specs.Areas.{old, new, Leaves, before, after};
+ghost use Rattle.replies.specs.Areas.{Leaves, before, after};
 ghost use Rattle.discrimination.specs.Discrimination.{from_link};
 ghost use Rattle.receiving.specs.Receive as Receive;
 
@@ -43,11 +43,11 @@ fn receive_by(
     reports: &mut [u64],
 ) -> Answer
     ensures leaves { Leaves
-        (Receive.received_by (plan_of plan) link fsn (length (old message)) (from_link (plan_of plan) (old message))
-        (before links marks spans rings rows arrivals reports)) result
-        (after links marks spans rings rows arrivals reports) }
-    ensures octets_value { new octets ≡
-        Receive.octets_by (plan_of plan) (from_link (plan_of plan) (old message)) (before links marks spans rings rows arrivals reports) (old octets) (old message) }
+        (Receive.received_by (plan_of plan) link fsn (length message.now) (from_link (plan_of plan) message.now)
+        (before links.old marks.old spans.old rings.old rows.old arrivals.old reports.old)) result
+        (after links.new marks.new spans.new rings.new rows.new arrivals.new reports.new) }
+    ensures octets_value { octets.new ≡
+        Receive.octets_by (plan_of plan) (from_link (plan_of plan) message.now) (before links.old marks.old spans.old rings.old rows.old arrivals.old reports.old) octets.old message.now }
 {
     match from_link(plan, message) {
         Came::Malformed => plain(3),
@@ -77,10 +77,10 @@ pub fn receive(
     message: &[u8],
     reports: &mut [u64],
 ) -> Answer
-    ensures leaves { Leaves (Receive.received (plan_of plan) link fsn (old message) (before links marks spans rings rows arrivals reports)) result
-        (after links marks spans rings rows arrivals reports) }
-    ensures octets_value { new octets ≡
-        Receive.octets_received (plan_of plan) link fsn (old message) (before links marks spans rings rows arrivals reports) (old octets) }
+    ensures leaves { Leaves (Receive.received (plan_of plan) link fsn message.now (before links.old marks.old spans.old rings.old rows.old arrivals.old reports.old)) result
+        (after links.new marks.new spans.new rings.new rows.new arrivals.new reports.new) }
+    ensures octets_value { octets.new ≡
+        Receive.octets_received (plan_of plan) link fsn message.now (before links.old marks.old spans.old rings.old rows.old arrivals.old reports.old) octets.old }
 {
     let reply = receive_reply(plan, links, link, fsn, reports);
     if 0 < reply {

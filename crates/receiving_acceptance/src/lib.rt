@@ -12,6 +12,7 @@ use lookup::is_link;
 use reports::short;
 
 // The reply before the message is looked at.
+#[tactic(auto, unfolding(crate::specs::Acceptance::reply_of, replies::specs::Reply::first))]
 pub fn receive_reply(
     plan: &[u16; 1024],
     links: &[u32; 256],

@@ -37,9 +37,9 @@ pub fn put_called(
 ) -> usize
     ensures result_after { page out.new result ≡
         puts (page out.old at)
-        (called_lines (plan_of plan) view number event message.now (memory_before links marks spans rings rows arrivals reports octets sent)) }
-    ensures sent_value { memory_after links marks spans rings rows arrivals reports octets sent ≡
-        (call_of (plan_of plan) event message.now (memory_before links marks spans rings rows arrivals reports octets sent)).after }
+        (called_lines (plan_of plan) view number event message.now (memory_before links.old marks.old spans.old rings.old rows.old arrivals.old reports.old octets.old sent.old)) }
+    ensures sent_value { memory_after links.new marks.new spans.new rings.new rows.new arrivals.new reports.new octets.new sent.new ≡
+        (call_of (plan_of plan) event message.now (memory_before links.old marks.old spans.old rings.old rows.old arrivals.old reports.old octets.old sent.old)).after }
 {
     if tells(view, number) {
         return put_fated(
@@ -83,9 +83,9 @@ fn put_fated(
 ) -> usize
     ensures result_after { page out.new result ≡
         puts (page out.old at)
-        (fated_lines (plan_of plan) number event message.now (memory_before links marks spans rings rows arrivals reports octets sent)) }
-    ensures sent_value { memory_after links marks spans rings rows arrivals reports octets sent ≡
-        (call_of (plan_of plan) event message.now (memory_before links marks spans rings rows arrivals reports octets sent)).after }
+        (fated_lines (plan_of plan) number event message.now (memory_before links.old marks.old spans.old rings.old rows.old arrivals.old reports.old octets.old sent.old)) }
+    ensures sent_value { memory_after links.new marks.new spans.new rings.new rows.new arrivals.new reports.new octets.new sent.new ≡
+        (call_of (plan_of plan) event message.now (memory_before links.old marks.old spans.old rings.old rows.old arrivals.old reports.old octets.old sent.old)).after }
 {
     let oldspans = *spans;
     let oldrings = *rings;

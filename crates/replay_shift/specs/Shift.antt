@@ -5,7 +5,7 @@ use Rattle.std.proofs.Math.Seq.{slice}
 use Rattle.plan.specs.declared.data.Plan.{Plan}
 use Rattle.plan_configuration.specs.Configure.{configured}
 use Rattle.node.specs.declared.ask.Question.{Question}
-use Rattle.replies.specs.Areas.{Lent, areas}
+use Rattle.replies.specs.Areas.{areas}
 use Rattle.start.specs.Start.{fresh_links, fresh_marks, fresh_spans, fresh_rings, fresh_arrivals}
 use Rattle.node.specs.Memory.{Memory, memory}
 use Rattle.node.specs.Call.{call_of}
@@ -99,10 +99,10 @@ desk_at memory message out place =
     desk memory message (take place.pending out) place.at place.number place.readable
 
 -- all lines of a lent text from a place on, run on a memory, with the message area and the page as they are lent
-abbrev pub ran_from : Plan → View → Lent → Place → Memory → Lent → Lent → Desk
+abbrev pub ran_from : Plan → View → List ℕ → Place → Memory → List ℕ → List ℕ → Desk
 ran_from plan view text from m message out =
-    ran_all plan view (lines_from text.entry.now from.at) out.entry.now
-    (desk_at m message.entry.now out.entry.now from)
+    ran_all plan view (lines_from text from.at) out
+    (desk_at m message out from)
 
 -- the place of a desk that began at another
 abbrev pub place_at : Place → List ℕ → Desk → Place

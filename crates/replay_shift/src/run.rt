@@ -43,14 +43,14 @@ pub fn run_lines(
 ) -> Place
     ensures value { result ≡
         place_at from out.old
-        (ran_from (plan_of plan) view text from (memory_before links marks spans rings rows arrivals reports octets sent) message out) }
+        (ran_from (plan_of plan) view text.now from (memory_before links.old marks.old spans.old rings.old rows.old arrivals.old reports.old octets.old sent.old) message.old out.old) }
     ensures out_after { out.new ≡
-        page_with (ran_from (plan_of plan) view text from (memory_before links marks spans rings rows arrivals reports octets sent) message out)
+        page_with (ran_from (plan_of plan) view text.now from (memory_before links.old marks.old spans.old rings.old rows.old arrivals.old reports.old octets.old sent.old) message.old out.old)
         out.old }
-    ensures sent_value { memory_after links marks spans rings rows arrivals reports octets sent ≡
-        (ran_from (plan_of plan) view text from (memory_before links marks spans rings rows arrivals reports octets sent) message out).memory }
+    ensures sent_value { memory_after links.new marks.new spans.new rings.new rows.new arrivals.new reports.new octets.new sent.new ≡
+        (ran_from (plan_of plan) view text.now from (memory_before links.old marks.old spans.old rings.old rows.old arrivals.old reports.old octets.old sent.old) message.old out.old).memory }
     ensures message_after { message.new ≡
-        (ran_from (plan_of plan) view text from (memory_before links marks spans rings rows arrivals reports octets sent) message out).message }
+        (ran_from (plan_of plan) view text.now from (memory_before links.old marks.old spans.old rings.old rows.old arrivals.old reports.old octets.old sent.old) message.old out.old).message }
 {
     if !fit(message.len(), sent.len(), reports.len(), out.len()) {
         return from;
@@ -109,9 +109,9 @@ fn run_line(
     requires sent_len { length sent.old ≡ 4096 }
     requires reports_len { length reports.old ≡ 1024 }
     requires out_len { length out.old ≡ 262144 }
-    ensures result_after { desk_at (memory_after links marks spans rings rows arrivals reports octets sent) message.new out.new result ≡
+    ensures result_after { desk_at (memory_after links.new marks.new spans.new rings.new rows.new arrivals.new reports.new octets.new sent.new) message.new out.new result ≡
         ran_line (plan_of plan) view (slice at part.end text.now) part.next
-        (desk_at (memory_before links marks spans rings rows arrivals reports octets sent) message.old out.old place) }
+        (desk_at (memory_before links.old marks.old spans.old rings.old rows.old arrivals.old reports.old octets.old sent.old) message.old out.old place) }
     ensures pending_bound_2 { result.pending ≤ 262144 }
     ensures out_unchanged { drop result.pending out.new ≡ drop result.pending out.old }
 {

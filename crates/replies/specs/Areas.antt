@@ -1,19 +1,7 @@
 -- The lent areas that an event changes, and what it leaves. The octets of user messages lie apart: only queueing one writes there.
 use Rattle.std.specs.Prelude.{ℕ, ◌≡◌, List, []}
-use denote.Triple.Both.{Both}
-use Rattle.std.specs.Borrow.{Bor}
 use Rattle.replies.specs.declared.Answer.{Answer}
 use Rattle.replies.specs.Reply.{plain, if_done}
-
--- an area lent to a call: its content before the call and after it
-abbrev pub Lent : Type 0
-Lent = Both (Bor (List ℕ)) (Bor (List ℕ))
-
-abbrev pub old : Lent → List ℕ
-old area = area.entry.now
-
-abbrev pub new : Lent → List ℕ
-new area = area.exit.now
 
 pub record Areas : Type 0 where
   -- the records of links, and the flags of destinations
@@ -42,30 +30,30 @@ areas links marks spans rings rows arrivals reports =
     }
 
 -- the areas lent to a call, as they stand before it and after it; one that is lent to be read is the same in both
-abbrev pub before : Lent → Lent → Lent → Lent → Lent → Lent → Lent → Areas
+abbrev pub before : List ℕ → List ℕ → List ℕ → List ℕ → List ℕ → List ℕ → List ℕ → Areas
 before links marks spans rings rows arrivals reports =
-    areas (old links) (old marks) (old spans) (old rings) (old rows) (old arrivals) (old reports)
+    areas links marks spans rings rows arrivals reports
 
-abbrev pub after : Lent → Lent → Lent → Lent → Lent → Lent → Lent → Areas
+abbrev pub after : List ℕ → List ℕ → List ℕ → List ℕ → List ℕ → List ℕ → List ℕ → Areas
 after links marks spans rings rows arrivals reports =
-    areas (new links) (new marks) (new spans) (new rings) (new rows) (new arrivals) (new reports)
+    areas links marks spans rings rows arrivals reports
 
 -- the same of a call that gives no arrival number, and of one that reports nothing: it isn't lent that area
-abbrev pub before_unnumbered : Lent → Lent → Lent → Lent → Lent → Lent → Areas
+abbrev pub before_unnumbered : List ℕ → List ℕ → List ℕ → List ℕ → List ℕ → List ℕ → Areas
 before_unnumbered links marks spans rings rows reports =
-    areas (old links) (old marks) (old spans) (old rings) (old rows) [] (old reports)
+    areas links marks spans rings rows [] reports
 
-abbrev pub after_unnumbered : Lent → Lent → Lent → Lent → Lent → Lent → Areas
+abbrev pub after_unnumbered : List ℕ → List ℕ → List ℕ → List ℕ → List ℕ → List ℕ → Areas
 after_unnumbered links marks spans rings rows reports =
-    areas (new links) (new marks) (new spans) (new rings) (new rows) [] (new reports)
+    areas links marks spans rings rows [] reports
 
-abbrev pub before_unreported : Lent → Lent → Lent → Lent → Lent → Lent → Areas
+abbrev pub before_unreported : List ℕ → List ℕ → List ℕ → List ℕ → List ℕ → List ℕ → Areas
 before_unreported links marks spans rings rows arrivals =
-    areas (old links) (old marks) (old spans) (old rings) (old rows) (old arrivals) []
+    areas links marks spans rings rows arrivals []
 
-abbrev pub after_unreported : Lent → Lent → Lent → Lent → Lent → Lent → Areas
+abbrev pub after_unreported : List ℕ → List ℕ → List ℕ → List ℕ → List ℕ → List ℕ → Areas
 after_unreported links marks spans rings rows arrivals =
-    areas (new links) (new marks) (new spans) (new rings) (new rows) (new arrivals) []
+    areas links marks spans rings rows arrivals []
 
 -- what an event answers, and the areas after it
 pub record Outcome : Type 0 where

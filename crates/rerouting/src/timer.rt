@@ -24,8 +24,8 @@ pub fn expire_t6(
     x: u16,
     reports: &mut [u64],
 ) -> Answer
-    ensures { Leaves (Timer.expired_t6 (plan_of plan) (before_unnumbered links marks spans rings rows reports) x) result
-        (after_unnumbered links marks spans rings rows reports) }
+    ensures { Leaves (Timer.expired_t6 (plan_of plan) (before_unnumbered links.now marks.old spans.old rings.old rows.now reports.old) x) result
+        (after_unnumbered links.now marks.new spans.new rings.new rows.now reports.new) }
 {
     if short(reports) {
         return plain(1);
@@ -51,8 +51,8 @@ pub fn expire_t10(
     x: u16,
     set: u8,
 ) -> Answer
-    ensures { Leaves (Timer.expired_t10 (plan_of plan) (before_unreported links marks spans rings rows arrivals) x set) result
-        (after_unreported links marks spans rings rows arrivals) }
+    ensures { Leaves (Timer.expired_t10 (plan_of plan) (before_unreported links.now marks.now spans.old rings.old rows.old arrivals.old) x set) result
+        (after_unreported links.now marks.now spans.new rings.new rows.new arrivals.new) }
 {
     let reply = t10_reply(plan, marks, x, set);
     if 0 < reply {

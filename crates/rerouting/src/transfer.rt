@@ -22,8 +22,8 @@ pub fn transfer(
     prohibits: bool,
     reports: &mut [u64],
 ) -> Answer
-    ensures { Leaves (Transfer.transferred (plan_of plan) point x prohibits (before links marks spans rings rows arrivals reports)) result
-        (after links marks spans rings rows arrivals reports) }
+    ensures { Leaves (Transfer.transferred (plan_of plan) point x prohibits (before links.now marks.old spans.now rings.now rows.now arrivals.now reports.old)) result
+        (after links.now marks.new spans.now rings.now rows.now arrivals.now reports.new) }
 {
     if !counts(plan, marks, point, x, prohibits) {
         return plain(11);

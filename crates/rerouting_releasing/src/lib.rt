@@ -3,7 +3,6 @@
 
 ghost use Rattle.plan_words.specs.Words.{plan_of};
 ghost use Rattle.std.specs.Prelude.{◌≡◌};
-ghost use Rattle.replies.specs.Areas.{old};
 ghost use Rattle.queue_retiring.specs.Leave.{state_before, state_after};
 ghost use Rattle.rerouting_releasing.specs.Release as Release;
 
@@ -14,6 +13,7 @@ use queue_moving::move_one;
 use queue_rings::ring::{at, count};
 
 // The first message held apart moves if it is for the point, and else goes to the end of those held apart.
+#[tactic(auto, unfolding(crate::specs::Release::released_one, queue_heads::specs::Head::head_of, queue_rings::specs::Ring::take_of))]
 fn release_one(
     plan: &[u16; 1024],
     links: &[u32; 256],
@@ -25,8 +25,8 @@ fn release_one(
     reports: &mut [u64],
     told: usize,
 ) -> usize
-    ensures { state_after spans rings reports result ≡
-        Release.released_one (plan_of plan) (old links) (old marks) (old rows) point (state_before spans rings reports told) }
+    ensures { state_after spans.new rings.new reports.new result ≡
+        Release.released_one (plan_of plan) links.now marks.now rows.now point (state_before spans.old rings.old reports.old told) }
 {
     let head = at(spans, rings, HELD_APART, 0);
     let known = load_slot(rows, head.slot);
@@ -40,6 +40,7 @@ fn release_one(
 }
 
 // The messages held apart for a point move, and the others keep their order; how many reports there are now.
+#[tactic(auto, unfolding(crate::specs::Release::released))]
 pub fn release(
     plan: &[u16; 1024],
     links: &[u32; 256],
@@ -51,8 +52,8 @@ pub fn release(
     reports: &mut [u64],
     told: usize,
 ) -> usize
-    ensures { state_after spans rings reports result ≡
-        Release.released (plan_of plan) (old links) (old marks) (old rows) point (state_before spans rings reports told) }
+    ensures { state_after spans.new rings.new reports.new result ≡
+        Release.released (plan_of plan) links.now marks.now rows.now point (state_before spans.old rings.old reports.old told) }
 {
     let mut left = count(spans, HELD_APART);
     let mut reported = told;

@@ -3,7 +3,6 @@
 
 ghost use Rattle.plan_words.specs.Words.{plan_of};
 ghost use Rattle.std.specs.Prelude.{◌≡◌, length};
-ghost use Rattle.replies.specs.Areas.{old, new};
 ghost use Rattle.sending.specs.Send as Send;
 
 use area_links::load_link;
@@ -22,6 +21,7 @@ use wire_messages::management::{MessageRead, listed};
 use wire_writing::write_message;
 
 // The reply.
+#[tactic(auto, unfolding(crate::specs::Send::reply_of, replies::specs::Reply::first))]
 fn send_reply(
     plan: &[u16; 1024],
     links: &[u32; 256],
@@ -29,7 +29,7 @@ fn send_reply(
     link: u8,
     room: usize,
 ) -> u8
-    ensures { result ≡ Send.reply_of (plan_of plan) (old links) (old spans) link room }
+    ensures { result ≡ Send.reply_of (plan_of plan) links.now spans.now link room }
 {
     if LINKS <= link {
         return 1;
@@ -54,9 +54,10 @@ fn send_reply(
 }
 
 // A management message as octets; how many they are.
+#[tactic(auto, unfolding(crate::specs::Send::held_count_by, crate::specs::Send::held_out_by))]
 fn write_held(plan: &[u16; 1024], known: Slot, out: &mut [u8]) -> usize
-    ensures value { result ≡ Send.held_count (plan_of plan) known (old out) }
-    ensures out_value { new out ≡ Send.held_out (plan_of plan) known (old out) }
+    ensures value { result ≡ Send.held_count (plan_of plan) known out.old }
+    ensures out_value { out.new ≡ Send.held_out (plan_of plan) known out.old }
 {
     let heading = (known.heading % 256) as u8;
     let low = (known.field % 256) as u8;
@@ -75,6 +76,7 @@ fn write_held(plan: &[u16; 1024], known: Slot, out: &mut [u8]) -> usize
 }
 
 // The message in a slot as octets; how many they are.
+#[tactic(auto, unfolding(crate::specs::Send::slot_count, crate::specs::Send::slot_out))]
 fn write_slot(
     plan: &[u16; 1024],
     rows: &[u64; 2048],
@@ -82,8 +84,8 @@ fn write_slot(
     slot: u8,
     out: &mut [u8],
 ) -> usize
-    ensures value { result ≡ Send.slot_count (plan_of plan) (old rows) slot (old out) }
-    ensures out_value { new out ≡ Send.slot_out (plan_of plan) (old rows) (old octets) slot (old out) }
+    ensures value { result ≡ Send.slot_count (plan_of plan) rows.now slot out.old }
+    ensures out_value { out.new ≡ Send.slot_out (plan_of plan) rows.now octets.now slot out.old }
 {
     let known = load_slot(rows, slot);
     if slot < 192 {
@@ -93,6 +95,7 @@ fn write_slot(
 }
 
 // Level 2 asks for the next message of a link.
+#[tactic(auto, unfolding(crate::specs::Send::answer_of, crate::specs::Send::links_after, crate::specs::Send::out_after, crate::specs::Send::first_unsent))]
 pub fn send(
     plan: &[u16; 1024],
     links: &mut [u32; 256],
@@ -103,9 +106,9 @@ pub fn send(
     link: u8,
     out: &mut [u8],
 ) -> Answer
-    ensures value { result ≡ Send.answer_of (plan_of plan) (old links) (old spans) (old rings) (old rows) link (old out) }
-    ensures links_value { new links ≡ Send.links_after (plan_of plan) (old links) (old spans) link (length (old out)) }
-    ensures out_value { new out ≡ Send.out_after (plan_of plan) (old links) (old spans) (old rings) (old rows) (old octets) link (old out) }
+    ensures value { result ≡ Send.answer_of (plan_of plan) links.old spans.now rings.now rows.now link out.old }
+    ensures links_value { links.new ≡ Send.links_after (plan_of plan) links.old spans.now link (length out.old) }
+    ensures out_value { out.new ≡ Send.out_after (plan_of plan) links.old spans.now rings.now rows.now octets.now link out.old }
 {
     let reply = send_reply(plan, links, spans, link, out.len());
     if 0 < reply {
