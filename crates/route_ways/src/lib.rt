@@ -35,6 +35,7 @@ pub struct Direction {
 }
 
 // Both for an SLS, by one search.
+#[tactic(auto, using(crate::proofs::Ways::no_way, crate::proofs::Ways::way_there))]
 pub fn directed(
     plan: &[u16; 1024],
     links: &[u32; 256],
@@ -74,6 +75,7 @@ pub fn way(
 }
 
 // The link of a destination for an SLS, as user messages need it, 32 where there is none.
+#[tactic(auto, using(crate::proofs::Ways::link_there))]
 pub fn current(
     plan: &[u16; 1024],
     links: &[u32; 256],
