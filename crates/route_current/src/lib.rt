@@ -9,6 +9,7 @@ use lookup::set_of;
 use route_ways::current;
 
 // The set of a destination's current link, 8 where there is none.
+#[tactic(auto, unfolding(crate::specs::Current::current_set))]
 pub fn current_set(
     plan: &[u16; 1024],
     links: &[u32; 256],
