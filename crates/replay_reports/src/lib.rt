@@ -1,5 +1,5 @@
 // The lines of a call's reports.
-#![tactic(auto)]
+#![tactic(auto, unfolding(text_pages::specs::Page::puts))]
 
 ghost use Rattle.std.specs.Prelude.{◌≡◌, [], ◌∷◌};
 ghost use Rattle.text_decimals.specs.Decimal.{decimal_of};
