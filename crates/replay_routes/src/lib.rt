@@ -27,6 +27,7 @@ pub fn put_routes(out: &mut [u8], at: usize, number: u64, list: &[u8]) -> usize
     }
 }
 
+#[tactic(auto, unfolding(text_pages::specs::Page::puts))]
 fn put_route(out: &mut [u8], at: usize, number: u64, route: &[u8]) -> usize
     ensures { page out.new result ≡ puts (page out.old at) (decimal_of number ∷ route_word ∷ route.now ∷ ended ∷ []) }
 {
