@@ -10,7 +10,7 @@ pub loop-more-preserved : goal.loop-more-preserved
 loop-more-preserved c =
     let l = c.loop-more in
     let a = c.args in
-    let d = c.drop_head in
+    let d = c.drop_head-told in
     let step = dropped_one a.rows.now a.ring a.reason in
     let now = state l.spans l.rings l.reports l.told in
     let start = state a.spans.now a.rings.now a.reports.now a.count in
