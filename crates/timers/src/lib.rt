@@ -12,6 +12,7 @@ use lookup::{is_link, rank_by};
 use plan_words::find::find;
 
 // Whether a timer of a link runs, by its number, 1 to 4.
+#[tactic(auto, unfolding(crate::specs::Timers::runs_on))]
 fn runs_on(known: LinkRecord, timer: u8) -> bool
     ensures { result ≡ Timers.runs_on known timer }
 {
@@ -25,6 +26,7 @@ fn runs_on(known: LinkRecord, timer: u8) -> bool
 }
 
 // Whether T1, T2, T3 or T4 of a link runs.
+#[tactic(auto, unfolding(crate::specs::Timers::link_timer))]
 pub fn link_timer(plan: &[u16; 1024], links: &[u32; 256], link: u8, timer: u8) -> bool
     ensures { result ≡ Timers.link_timer (plan_of plan) links.now link timer }
 {
@@ -35,6 +37,7 @@ pub fn link_timer(plan: &[u16; 1024], links: &[u32; 256], link: u8, timer: u8) -
 }
 
 // Whether T6 or T8 of a destination runs.
+#[tactic(auto, unfolding(crate::specs::Timers::destination_timer))]
 pub fn destination_timer(plan: &[u16; 1024], marks: &[u32; 512], x: u16, timer: u8) -> bool
     ensures { result ≡ Timers.destination_timer (plan_of plan) marks.now x timer }
 {
@@ -53,6 +56,7 @@ pub fn destination_timer(plan: &[u16; 1024], marks: &[u32; 512], x: u16, timer: 
 }
 
 // Whether T10 of the route to a destination by a set runs.
+#[tactic(auto, unfolding(crate::specs::Timers::route_timer))]
 pub fn route_timer(plan: &[u16; 1024], marks: &[u32; 512], x: u16, set: u8) -> bool
     ensures { result ≡ Timers.route_timer (plan_of plan) marks.now x set }
 {
