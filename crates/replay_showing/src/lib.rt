@@ -1,5 +1,5 @@
 // What a call shows: the line of its reply.
-#![tactic(auto)]
+#![tactic(auto, unfolding(text_pages::specs::Page::puts))]
 
 pub mod reply;
 pub mod shows;
