@@ -21,6 +21,7 @@ pub fn given_of(plan: &[u16; 1024]) -> usize
 }
 
 // Whether a destination is accessible.
+#[tactic(auto, unfolding(crate::specs::Change::is_accessible))]
 pub fn accessible(
     plan: &[u16; 1024],
     links: &[u32; 256],
@@ -47,6 +48,7 @@ pub fn accesses(plan: &[u16; 1024], links: &[u32; 256], marks: &[u32; 512]) -> [
 }
 
 // The report of one destination, if its access changed.
+#[tactic(auto, unfolding(crate::specs::Change::told_one))]
 fn report_one(before: bool, after: bool, code: u16, reports: &mut [u64], count: usize) -> usize
     ensures value { result ≡ (Change.told_one before after code (log reports.old count)).count }
     ensures reports_after { reports.new ≡ (Change.told_one before after code (log reports.old count)).area }
@@ -61,6 +63,7 @@ fn report_one(before: bool, after: bool, code: u16, reports: &mut [u64], count: 
 }
 
 // The code of a destination.
+#[tactic(auto, using(crate::proofs::Told::code_there, crate::proofs::Told::code_past))]
 fn code_of(plan: &[u16; 1024], destination: usize) -> u16
     ensures { result ≡ Change.code_of (plan_of plan) destination }
 {
