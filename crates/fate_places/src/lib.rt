@@ -112,6 +112,7 @@ fn tells_drop(kind: u64, about: u64, arrival: u64) -> bool
 }
 
 // Where a message is that stood in a queue, at a place: 34 where it stays in it, another queue, 35 where it is reported dropped, else 33.
+#[tactic(auto, unfolding(crate::specs::Places::whither))]
 pub fn whither(
     spans: &[u16; 70],
     rings: &[u8; 8960],
