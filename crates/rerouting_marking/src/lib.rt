@@ -14,6 +14,7 @@ use route_access::accessible;
 use route_current::current_set;
 
 // The rank of the route to X by the set of the point, 4 where there is none.
+#[tactic(auto, unfolding(crate::specs::Mark::rank_for))]
 fn rank_for(plan: &[u16; 1024], point: u16, x: u16) -> usize
     ensures { result ≡ Mark.rank_for (plan_of plan) point x }
 {
@@ -29,6 +30,7 @@ fn rank_for(plan: &[u16; 1024], point: u16, x: u16) -> usize
 }
 
 // Whether a TFP or TFA counts.
+#[tactic(auto, unfolding(crate::specs::Mark::counts))]
 pub fn counts(plan: &[u16; 1024], marks: &[u32; 512], point: u16, x: u16, prohibits: bool) -> bool
     ensures { result ≡ Mark.counts (plan_of plan) marks.now point x prohibits }
 {
@@ -48,6 +50,7 @@ pub fn counts(plan: &[u16; 1024], marks: &[u32; 512], point: u16, x: u16, prohib
 }
 
 // Whether a TFA has X use another set than the one it used before.
+#[tactic(auto, unfolding(crate::specs::Mark::diverts))]
 fn diverts(
     plan: &[u16; 1024],
     links: &[u32; 256],
@@ -69,6 +72,7 @@ fn diverts(
 }
 
 // The mark is set or cleared, and T6 started.
+#[tactic(auto, unfolding(crate::specs::Mark::marks_after, crate::specs::Mark::marked))]
 pub fn mark(
     plan: &[u16; 1024],
     links: &[u32; 256],
