@@ -18,6 +18,7 @@ use Rattle.replay_fates.specs.Holds.{Seen, Among, together}
 use Rattle.replay_fates.specs.Holds.Among.{here, there}
 
 among_first : (fate : Fate) (one other : List Fate) → Among fate one → Among fate (one ++ other)
+among_first fate [] other is = elim is [ ]
 among_first fate (now ∷ one) other (here fate' one') = here fate (one ++ other)
 among_first fate (now ∷ one) other (there fate' now' one' later) = there fate now (one ++ other) (among_first fate one other later)
 

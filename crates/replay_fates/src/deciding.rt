@@ -61,6 +61,7 @@ pub fn fate_of(part: Part, queue: u8, known: Slot, to: u8) -> Fate
 }
 
 // The message that leaves.
+#[tactic(auto, unfolding(crate::specs::Fates::sent_fate))]
 pub fn sent_fate(
     told: Told,
     links: &[u32; 256],
