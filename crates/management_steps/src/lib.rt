@@ -91,6 +91,7 @@ pub fn end(link: u8, parts: Cut) -> Step
 
 // A COO or ECO on the link that it names, by its answer on a link in service, its answer on one that is out, and what becomes
 // of the queue.
+#[tactic(auto, unfolding(crate::specs::Step::order_step))]
 pub fn order_step(known: LinkRecord, link: u8, own: Draft, emergency: Draft, parts: Cut) -> Step
     ensures { result ≡ Steps.order_step known link own emergency parts }
 {
@@ -104,6 +105,7 @@ pub fn order_step(known: LinkRecord, link: u8, own: Draft, emergency: Draft, par
 }
 
 // A COA or ECA: it counts only while T2 runs.
+#[tactic(auto, unfolding(crate::specs::Step::ack_step))]
 pub fn ack_step(link: u8, known: LinkRecord, parts: Cut) -> Step
     ensures { result ≡ Steps.ack_step link known parts }
 {
