@@ -14,6 +14,7 @@ use management_steps::{Step, ack_step, nothing, order_step};
 use wire_messages::management::Message;
 
 // The last received number of a link, a message just taken included.
+#[tactic(auto, unfolding(crate::specs::Ask::last_received))]
 fn last_received(links: &[u32; 256], arriving: u8, fsn: u8, link: u8) -> u8
     ensures { result ≡ Ask.last_received links.now arriving fsn link }
 {
@@ -25,6 +26,7 @@ fn last_received(links: &[u32; 256], arriving: u8, fsn: u8, link: u8) -> u8
 }
 
 // An ECA.
+#[tactic(auto, unfolding(crate::specs::Ask::emergency_of))]
 fn emergency_of(point: u16, slc: u8, link: u8) -> Draft
     ensures { result ≡ Ask.emergency_of point slc link }
 {
@@ -36,6 +38,7 @@ fn emergency_of(point: u16, slc: u8, link: u8) -> Draft
     }
 }
 
+#[tactic(auto, unfolding(crate::specs::Ask::ask_coo))]
 pub fn ask_coo(
     plan: &[u16; 1024],
     links: &[u32; 256],
@@ -62,6 +65,7 @@ pub fn ask_coo(
     order_step(known, link, own, emergency, cut_at(known, f))
 }
 
+#[tactic(auto, unfolding(crate::specs::Ask::ask_eco))]
 pub fn ask_eco(plan: &[u16; 1024], links: &[u32; 256], point: u16, slc: u8) -> Step
     ensures { result ≡ Ask.ask_eco (plan_of plan) links.now point slc }
 {
@@ -74,6 +78,7 @@ pub fn ask_eco(plan: &[u16; 1024], links: &[u32; 256], point: u16, slc: u8) -> S
     order_step(known, link, own, own, cut_unknown(known))
 }
 
+#[tactic(auto, unfolding(crate::specs::Ask::ask_coa))]
 pub fn ask_coa(plan: &[u16; 1024], links: &[u32; 256], point: u16, slc: u8, f: u8) -> Step
     ensures { result ≡ Ask.ask_coa (plan_of plan) links.now point slc f }
 {
@@ -82,6 +87,7 @@ pub fn ask_coa(plan: &[u16; 1024], links: &[u32; 256], point: u16, slc: u8, f: u
     ack_step(link, known, cut_at(known, f))
 }
 
+#[tactic(auto, unfolding(crate::specs::Ask::ask_eca))]
 pub fn ask_eca(plan: &[u16; 1024], links: &[u32; 256], point: u16, slc: u8) -> Step
     ensures { result ≡ Ask.ask_eca (plan_of plan) links.now point slc }
 {
