@@ -14,6 +14,7 @@ use plan_words::read::{given, set_adjacent};
 use wire_messages::management::Message;
 
 // Whether a destination is configured.
+#[tactic(auto, unfolding(crate::specs::Expiry::is_destination))]
 pub fn is_destination(plan: &[u16; 1024], x: u16) -> bool
     ensures { result ≡ Expiry.is_destination (plan_of plan) x }
 {
@@ -25,6 +26,7 @@ pub fn is_destination(plan: &[u16; 1024], x: u16) -> bool
 }
 
 // The reply to the expiry of a destination's timer, by the word of its flag.
+#[tactic(auto, unfolding(crate::specs::Expiry::reply_of, replies::specs::Reply::first))]
 pub fn timer_reply(plan: &[u16; 1024], marks: &[u32; 512], x: u16, timer: usize) -> u8
     ensures { result ≡ Expiry.reply_of (plan_of plan) marks.now x timer }
 {
@@ -42,6 +44,7 @@ pub fn timer_reply(plan: &[u16; 1024], marks: &[u32; 512], x: u16, timer: usize)
 }
 
 // T8 of a destination expires.
+#[tactic(auto, using(replies::proofs::Rows::refused, replies::proofs::Rows::done), unfolding(crate::specs::Expiry::expired_t8))]
 pub fn expire_t8(plan: &[u16; 1024], marks: &mut [u32; 512], x: u16) -> u8
     ensures value { result ≡ Expiry.reply_of (plan_of plan) marks.old x 5 }
     ensures marks_after { marks.new ≡ Expiry.expired_t8 (plan_of plan) marks.old x }
@@ -56,6 +59,7 @@ pub fn expire_t8(plan: &[u16; 1024], marks: &mut [u32; 512], x: u16) -> u8
 }
 
 // The reply to T10's expiry before its RST is made.
+#[tactic(auto, unfolding(crate::specs::Expiry::reply_t10, replies::specs::Reply::first))]
 pub fn t10_reply(plan: &[u16; 1024], marks: &[u32; 512], x: u16, set: u8) -> u8
     ensures { result ≡ Expiry.reply_t10 (plan_of plan) marks.now x set }
 {
@@ -83,6 +87,7 @@ pub fn t10_reply(plan: &[u16; 1024], marks: &[u32; 512], x: u16, set: u8) -> u8
 }
 
 // The RST about X to the adjacent point of a set.
+#[tactic(auto, unfolding(crate::specs::Expiry::test_of))]
 pub fn test_of(plan: &[u16; 1024], x: u16, set: u8) -> Draft
     ensures { result ≡ Expiry.test_of (plan_of plan) x set }
 {
