@@ -13,6 +13,7 @@ use lookup::{is_link, link_named};
 use replies::{Answer, done, plain};
 
 // The reply to an expiry.
+#[tactic(auto, using(crate::proofs::Expiry::past_the_last_link, crate::proofs::Expiry::another_timer, crate::proofs::Expiry::no_such_link, crate::proofs::Expiry::by_running))]
 fn wait_reply(plan: &[u16; 1024], links: &[u32; 256], link: u8, timer: u8) -> u8
     ensures { result ≡ Wait.reply_of (plan_of plan) links.now link timer }
 {
@@ -36,6 +37,7 @@ fn wait_reply(plan: &[u16; 1024], links: &[u32; 256], link: u8, timer: u8) -> u8
 }
 
 // T3 or T4 of a link expires.
+#[tactic(auto, using(replies::proofs::Rows::refused, replies::proofs::Rows::done, crate::proofs::Expiry::leaves_all, crate::proofs::Expiry::stops_one))]
 pub fn expire_wait(plan: &[u16; 1024], links: &mut [u32; 256], link: u8, timer: u8) -> u8
     ensures value { result ≡ Wait.reply_of (plan_of plan) links.old link timer }
     ensures links_after { links.new ≡ Wait.expired (plan_of plan) links.old link timer }
@@ -50,6 +52,7 @@ pub fn expire_wait(plan: &[u16; 1024], links: &mut [u32; 256], link: u8, timer: 
 }
 
 // Whether a CBA answers an unanswered CBD.
+#[tactic(auto, unfolding(crate::specs::Wait::answers))]
 fn answers(plan: &[u16; 1024], links: &[u32; 256], point: u16, slc: u8, code: u8) -> bool
     ensures { result ≡ Wait.answers (plan_of plan) links.now point slc code }
 {
@@ -62,6 +65,7 @@ fn answers(plan: &[u16; 1024], links: &[u32; 256], point: u16, slc: u8, code: u8
 }
 
 // The CBD is answered.
+#[tactic(auto, unfolding(crate::specs::Wait::answered))]
 fn answer_wait(plan: &[u16; 1024], links: &mut [u32; 256], point: u16, slc: u8)
     ensures { links.new ≡ Wait.answered (plan_of plan) links.old point slc }
 {
@@ -71,6 +75,7 @@ fn answer_wait(plan: &[u16; 1024], links: &mut [u32; 256], point: u16, slc: u8)
 }
 
 // A CBA that came from a point.
+#[tactic(auto, using(crate::proofs::Answering::not_counted, crate::proofs::Answering::counted))]
 pub fn answer_by(
     plan: &[u16; 1024],
     links: &mut [u32; 256],
