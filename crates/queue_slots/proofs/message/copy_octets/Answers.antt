@@ -1,11 +1,11 @@
 -- `queue_slots::message::copy_octets` meets its contract: a turn sets the next octet, and with all passed they stand at the start.
 -- Assumes nothing.
-use mathlib.Core.Path.{◌≡◌, sym, ap, ◌∙◌}
+use mathlib.Core.Path.{sym, ap, ◌∙◌}
 use mathlib.Core.List.{List}
 use Prim.Native.Nat.{ℕ, ◌+◌, ◌*◌}
 use native.Mathlib.Nat.{zero-add}
 use native.Mathlib.Omega.{arith}
-use lib.ListN.{get_or, set, length}
+use lib.ListN.{get_or, set}
 use lib.Seq.{sets, take_all}
 use Rattle.queue_slots.specs.Message.{octets_at}
 use Rattle.queue_rings.proofs.Runs.{sets_next}

@@ -1,7 +1,6 @@
 -- `queue_slots::message::write_user` meets its contract: with all octets passed the message stands in the slot.
 -- Assumes nothing.
 use mathlib.Core.Path.{ap, ◌∙◌}
-use native.Mathlib.Omega.{arith}
 use Prim.Native.Nat.{◌*◌}
 use lib.ListN.{length}
 use lib.Seq.{sets, take_all}
