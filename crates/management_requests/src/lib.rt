@@ -14,6 +14,7 @@ use route_access::accessible;
 use route_current::current_set;
 use wire_messages::management::Message;
 
+#[tactic(auto, unfolding(crate::specs::Request::ask_cbd))]
 pub fn ask_cbd(plan: &[u16; 1024], point: u16, slc: u8, code: u8) -> Step
     ensures { result ≡ Request.ask_cbd (plan_of plan) point slc code }
 {
@@ -29,6 +30,7 @@ pub fn ask_cbd(plan: &[u16; 1024], point: u16, slc: u8, code: u8) -> Step
 }
 
 // Whether a route set test is answered.
+#[tactic(auto, unfolding(crate::specs::Request::allows))]
 fn allows(plan: &[u16; 1024], links: &[u32; 256], marks: &[u32; 512], point: u16, x: u16) -> bool
     ensures { result ≡ Request.allows (plan_of plan) links.now marks.now point x }
 {
@@ -46,6 +48,7 @@ fn allows(plan: &[u16; 1024], links: &[u32; 256], marks: &[u32; 512], point: u16
     current_set(plan, links, marks, found.place) != asker
 }
 
+#[tactic(auto, unfolding(crate::specs::Request::ask_rst))]
 pub fn ask_rst(
     plan: &[u16; 1024],
     links: &[u32; 256],
