@@ -18,6 +18,7 @@ pub struct Sources {
 }
 
 // The link that a pair comes from, 32 where it doesn't come to this link from another.
+#[tactic(auto, unfolding(crate::specs::Pairs::came_from))]
 fn came_from(
     plan: &[u16; 1024],
     before: &[u32; 256],
@@ -41,6 +42,7 @@ fn came_from(
 }
 
 // A source more.
+#[tactic(auto, unfolding(crate::specs::Pairs::with_source))]
 fn with_source(plan: &[u16; 1024], link: u8, from: u8, known: Sources) -> Sources
     ensures { result ≡ Pairs.with_source (plan_of plan) link from known }
 {
