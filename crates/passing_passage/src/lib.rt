@@ -25,6 +25,7 @@ pub fn ring_of(marks: &[u32; 512], to: Direction) -> u8
 }
 
 // The TFP about X to the adjacent point of a link.
+#[tactic(auto, unfolding(crate::specs::Passage::prohibited_to))]
 pub fn prohibited_to(plan: &[u16; 1024], arriving: u8, x: u16) -> Draft
     ensures { result ≡ Passage.prohibited_to (plan_of plan) arriving x }
 {
@@ -37,6 +38,7 @@ pub fn prohibited_to(plan: &[u16; 1024], arriving: u8, x: u16) -> Draft
 }
 
 // Whether a TFP is due: X is configured and its T8 isn't running.
+#[tactic(auto, unfolding(crate::specs::Passage::tells))]
 pub fn tells(plan: &[u16; 1024], marks: &[u32; 512], x: u16) -> bool
     ensures { result ≡ Passage.tells (plan_of plan) marks.now x }
 {
@@ -48,6 +50,7 @@ pub fn tells(plan: &[u16; 1024], marks: &[u32; 512], x: u16) -> bool
 }
 
 // T8 of a destination starts.
+#[tactic(auto, unfolding(crate::specs::Passage::with_t8))]
 pub fn start_t8(plan: &[u16; 1024], marks: &mut [u32; 512], x: u16)
     ensures { marks.new ≡ Passage.with_t8 (plan_of plan) marks.old x }
 {
