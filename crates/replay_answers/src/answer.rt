@@ -160,6 +160,7 @@ pub fn shown_for(question: Question) -> Shows
 }
 
 // The lines of a route list, where one is shown.
+#[tactic(auto, unfolding(text_pages::specs::Page::puts))]
 fn put_listed(
     out: &mut [u8],
     at: usize,
