@@ -51,6 +51,7 @@ pub fn put_question(out: &mut [u8], at: usize, question: Question) -> usize
 }
 
 // The line of a word alone.
+#[tactic(auto, unfolding(text_pages::specs::Page::puts, crate::specs::Recorder::as_line))]
 fn put_bare(out: &mut [u8], at: usize, word: &[u8]) -> usize
     ensures { page out.new result ≡ puts (page out.old at) (as_line (word.now ∷ [])) }
 {
@@ -59,6 +60,7 @@ fn put_bare(out: &mut [u8], at: usize, word: &[u8]) -> usize
 }
 
 // The line of a word and a number.
+#[tactic(auto, unfolding(text_pages::specs::Page::puts, crate::specs::Recorder::as_line))]
 fn put_one(out: &mut [u8], at: usize, word: &[u8], number: u64) -> usize
     ensures { page out.new result ≡ puts (page out.old at) (as_line (word.now ∷ decimal_of number ∷ [])) }
 {
@@ -67,6 +69,7 @@ fn put_one(out: &mut [u8], at: usize, word: &[u8], number: u64) -> usize
 }
 
 // The line of a word and two numbers.
+#[tactic(auto, unfolding(text_pages::specs::Page::puts, crate::specs::Recorder::as_line))]
 fn put_two(out: &mut [u8], at: usize, word: &[u8], first: u64, second: u64) -> usize
     ensures { page out.new result ≡ puts (page out.old at) (as_line (word.now ∷ decimal_of first ∷ decimal_of second ∷ [])) }
 {
@@ -76,6 +79,7 @@ fn put_two(out: &mut [u8], at: usize, word: &[u8], first: u64, second: u64) -> u
 }
 
 // The line of a word and octets.
+#[tactic(auto, unfolding(text_pages::specs::Page::puts, crate::specs::Recorder::as_line))]
 fn put_message(out: &mut [u8], at: usize, word: &[u8], message: &[u8]) -> usize
     ensures { page out.new result ≡ puts (page out.old at) (as_line (word.now ∷ hex_of message.now ∷ [])) }
 {
@@ -84,6 +88,7 @@ fn put_message(out: &mut [u8], at: usize, word: &[u8], message: &[u8]) -> usize
 }
 
 // The line of a word, two numbers and octets.
+#[tactic(auto, unfolding(text_pages::specs::Page::puts, crate::specs::Recorder::as_line))]
 fn put_two_and_message(
     out: &mut [u8],
     at: usize,
@@ -102,6 +107,7 @@ fn put_two_and_message(
 }
 
 // A word that has fields behind it.
+#[tactic(auto, unfolding(text_pages::specs::Page::puts))]
 fn put_word(out: &mut [u8], at: usize, word: &[u8]) -> usize
     ensures { page out.new result ≡ puts (page out.old at) (word.now ∷ parted ∷ []) }
 {
@@ -110,6 +116,7 @@ fn put_word(out: &mut [u8], at: usize, word: &[u8]) -> usize
 }
 
 // The octets that end a line.
+#[tactic(auto, unfolding(text_pages::specs::Page::puts))]
 fn put_octets(out: &mut [u8], at: usize, octets: &[u8]) -> usize
     ensures { page out.new result ≡ puts (page out.old at) (hex_of octets.now ∷ ended ∷ []) }
 {
