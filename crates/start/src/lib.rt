@@ -2,7 +2,7 @@
 #![tactic(auto)]
 
 ghost use Rattle.std.specs.Prelude.{◌≡◌};
-ghost use Rattle.plan_words.specs.Words.{plan_at, plan_of};
+ghost use Rattle.plan_words.specs.Words.{plan_at};
 ghost use Rattle.plan_store.specs.Layout.{words_of};
 ghost use Rattle.plan_configuration.specs.Configure.{configured};
 ghost use Rattle.replies.specs.Reply.{if_done};
@@ -60,7 +60,7 @@ pub fn start(
     ensures rings_after { rings.new ≡ if_done (configured text.now).fault (Start.fresh_rings rings.old) rings.old }
     ensures arrivals_after { arrivals.new ≡
         if_done (configured text.now).fault (Start.fresh_arrivals arrivals.old) arrivals.old }
-    ensures plan_after_2 { plan_at plan.new ≡ if_done (configured text.now).fault (configured text.now).plan (plan_of plan) }
+    ensures plan_after_2 { plan_at plan.new ≡ if_done (configured text.now).fault (configured text.now).plan (plan_at plan.old) }
 {
     let made = configure(text);
     let answer = Started {
