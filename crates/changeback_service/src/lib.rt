@@ -41,6 +41,7 @@ pub fn comes_as(from: Sources) -> LinkRecord
 }
 
 // Which links its pairs come from.
+#[tactic(auto, unfolding(crate::specs::InService::sources_in))]
 pub fn sources_in(plan: &[u16; 1024], links: &[u32; 256], marks: &[u32; 512], link: u8) -> Sources
     ensures { result ≡ InService.sources_in (plan_of plan) links.now marks.now link }
 {
@@ -50,6 +51,7 @@ pub fn sources_in(plan: &[u16; 1024], links: &[u32; 256], marks: &[u32; 512], li
 }
 
 // The reply to a link that comes into service, before its pairs are looked at.
+#[tactic(auto, using(crate::proofs::Replying::no_such_link, crate::proofs::Replying::area_short, crate::proofs::Replying::not_configured, crate::proofs::Replying::not_out, crate::proofs::Replying::can_come))]
 pub fn service_reply(plan: &[u16; 1024], links: &[u32; 256], link: u8, reports: &[u64]) -> u8
     ensures { result ≡ InService.reply_first (plan_of plan) links.now link reports.now }
 {
