@@ -1,5 +1,5 @@
 -- One line run: what was read, called or asked, and put on the page is what the definition says. Assumes nothing.
-use Rattle.std.proofs.Common.{◌≡◌, ℕ, ◌+◌, ◌≤◌, true, false, List, [], ◌++◌, length, take, drop, sym, ap, ◌∙◌, arith}
+use Rattle.std.proofs.Common.{◌≡◌, ℕ, ◌≤◌, true, false, List, [], ◌++◌, length, take, drop, sym, ap, ◌∙◌, arith}
 use lib.Seq.{slice}
 use Rattle.plan.specs.declared.data.Plan.{Plan}
 use Rattle.node.specs.declared.ask.Question.{Question}

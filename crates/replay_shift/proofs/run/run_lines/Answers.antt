@@ -1,0 +1,106 @@
+-- `replay_shift::run::run_lines` meets its contract: line by line, what is left to run leads where the whole run leads.
+-- Assumes nothing.
+use Rattle.std.proofs.Common.{◌≡◌, ◌≤◌, Bool, true, false, cond, length, sym, refl, ap, ◌∙◌, arith}
+use lib.Seq.{slice}
+use Rattle.plan_words.specs.Words.{plan_at}
+use Rattle.replies.specs.Areas.{areas}
+use Rattle.node.specs.Memory.{memory}
+use Rattle.replay_shift.proofs.Lines.{less_left}
+use Rattle.replay_shift.specs.Shift.{desk_at, lines_from, ran_lines, sized}
+use Rattle.replay_shift.proofs.Going.{begins, goes_further, stops, ended, sizes_of, line_of, room_of, next_at}
+use Rattle.replay_shift.proofs.run.run_lines.Goals as goal
+
+pub returns-then-not-fit : goal.returns-then-not-fit
+returns-then-not-fit c =
+    let a = c.args in
+    let m = memory (areas a.links.now a.marks.now a.spans.now a.rings.now a.rows.now a.arrivals.now a.reports.now) a.octets.now a.sent.now in
+    let d = desk_at m a.message.now a.out.now a.from in
+    let whole = ran_lines (plan_at a.plan.now) a.view (lines_from a.text.now a.from.at) d in
+    let off : sized d a.out.now ≡ false = sym c.fit.ensures ∙ c.if-not-fit.true in
+    let is : d ≡ cond (sized d a.out.now) whole d = sym (ap (λ (t : Bool). cond t whole d) off) in
+    let all =
+    ended (plan_at a.plan.now) a.view a.text.now a.from m a.message.now a.out.now m a.message.now a.out.now a.from
+    (cond (sized d a.out.now) whole d) is (omega arith) refl refl
+    in
+    record { value = all.0; out_after = all.1.0; sent_value = all.1.1.0; message_after = all.1.1.1 }
+
+pub loop-view-init : goal.loop-view-init
+loop-view-init c =
+    let a = c.args in
+    begins (plan_at a.plan.now) a.view a.text.now a.from (memory (areas a.links.now a.marks.now a.spans.now a.rings.now a.rows.now a.arrivals.now a.reports.now) a.octets.now a.sent.now) a.message.now a.out.now
+
+pub run_line-place-requires : goal.run_line-place-requires
+run_line-place-requires c =
+    let l = c.loop-view in
+    let part = c.line-part.result in
+    let a = c.args in
+    let sizes =
+    sizes_of (length a.message.now) (length a.sent.now) (length a.reports.now) (length a.out.now)
+    (sym c.fit.ensures ∙ c.if-not-fit.false)
+    in
+    let on = sym c.goes_on.ensures ∙ c.if-not-goes_on.false in
+    let room : l.place.pending ≤ 65536 = room_of part.closed l.place.readable l.place.pending on in
+    record {
+      pending_bound = room;
+      message_len = omega (arith, sizes.message_is);
+      sent_len = omega (arith, sizes.sent_is);
+      reports_len = omega (arith, sizes.reports_is);
+      out_len = omega (arith, sizes.out_is);
+    }
+
+pub loop-view-smaller : goal.loop-view-smaller
+loop-view-smaller c =
+    let a = c.args in
+    let l = c.loop-view in
+    let found = c.line-part in
+    let ran = c.run_line-place in
+    let on = sym c.goes_on.ensures ∙ c.if-not-goes_on.false in
+    let less = less_left a.text.now l.place.at found.result found.ensures (line_of found.result.closed l.place.readable l.place.pending on) in
+    let next =
+    next_at (plan_at a.plan.now) a.view (slice l.place.at found.result.end a.text.now) found.result.next
+    (desk_at (memory (areas l.links l.marks l.spans l.rings l.rows l.arrivals l.reports) l.octets l.sent) l.message l.out l.place)
+    (memory (areas ran.new.links ran.new.marks ran.new.spans ran.new.rings ran.new.rows ran.new.arrivals ran.new.reports) ran.new.octets ran.new.sent)
+    ran.new.message ran.new.out ran.result ran.ensures.result_after
+    in
+    omega (arith, less, next)
+
+pub loop-view-preserved : goal.loop-view-preserved
+loop-view-preserved c =
+    let a = c.args in
+    let l = c.loop-view in
+    let found = c.line-part in
+    let ran = c.run_line-place in
+    let sizes =
+    sizes_of (length a.message.now) (length a.sent.now) (length a.reports.now) (length a.out.now)
+    (sym c.fit.ensures ∙ c.if-not-fit.false)
+    in
+    let on = sym c.goes_on.ensures ∙ c.if-not-goes_on.false in
+    let long : length l.out ≡ length a.out.now = omega arith in
+    let long' : length ran.new.out ≡ length a.out.now = omega arith in
+    goes_further (plan_at a.plan.now) a.view a.text.now a.from (memory (areas a.links.now a.marks.now a.spans.now a.rings.now a.rows.now a.arrivals.now a.reports.now) a.octets.now a.sent.now) a.message.now a.out.now sizes.out_is
+    (memory (areas l.links l.marks l.spans l.rings l.rows l.arrivals l.reports) l.octets l.sent) l.message l.out l.place long l.invariant found.result found.ensures on
+    (memory (areas ran.new.links ran.new.marks ran.new.spans ran.new.rings ran.new.rows ran.new.arrivals ran.new.reports) ran.new.octets ran.new.sent)
+    ran.new.message ran.new.out ran.result long' ran.ensures.result_after ran.ensures.pending_bound_2 ran.ensures.out_unchanged
+
+pub returns : goal.returns
+returns c =
+    let a = c.args in
+    let l = c.loop-view in
+    let found = c.line-part in
+    let m = memory (areas a.links.now a.marks.now a.spans.now a.rings.now a.rows.now a.arrivals.now a.reports.now) a.octets.now a.sent.now in
+    let n = memory (areas l.links l.marks l.spans l.rings l.rows l.arrivals l.reports) l.octets l.sent in
+    let d = desk_at m a.message.now a.out.now a.from in
+    let whole = ran_lines (plan_at a.plan.now) a.view (lines_from a.text.now a.from.at) d in
+    let fits : sized d a.out.now ≡ true = sym c.fit.ensures ∙ c.if-not-fit.false in
+    let sizes = sizes_of (length a.message.now) (length a.sent.now) (length a.reports.now) (length a.out.now) fits in
+    let off = sym c.goes_on.ensures ∙ c.if-not-goes_on.true in
+    let long : length l.out ≡ length a.out.now = omega arith in
+    let is =
+    stops (plan_at a.plan.now) a.view a.text.now a.from m a.message.now a.out.now sizes.out_is
+    n l.message l.out l.place long l.invariant found.result found.ensures off
+    in
+    let all =
+    ended (plan_at a.plan.now) a.view a.text.now a.from m a.message.now a.out.now n l.message l.out l.place
+    (cond (sized d a.out.now) whole d) (is ∙ sym (ap (λ (t : Bool). cond t whole d) fits)) l.invariant.pending_is l.invariant.rest_is long
+    in
+    record { value = all.0; out_after = all.1.0; sent_value = all.1.1.0; message_after = all.1.1.1 }
