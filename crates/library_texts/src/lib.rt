@@ -32,7 +32,7 @@ pub extern "C" fn transfer_point_start_lent(
     ensures rings_after { rings.new ≡ if_done (configured text.now).fault (Start.fresh_rings rings.old) rings.old }
     ensures arrivals_after { arrivals.new ≡
         if_done (configured text.now).fault (Start.fresh_arrivals arrivals.old) arrivals.old }
-    ensures plan_after_2 { plan_at plan.new ≡ if_done (configured text.now).fault (configured text.now).plan (plan_of plan) }
+    ensures plan_after_2 { plan_at plan.new ≡ if_done (configured text.now).fault (configured text.now).plan (plan_at plan.old) }
 {
     start(plan, links, marks, spans, rings, arrivals, text)
 }
