@@ -29,11 +29,7 @@ fn is_given(rt: &impl Env, i: usize) -> bool {
 }
 
 // The configuration that an argument names, after a line with its name where there are several.
-fn show_file(
-    rt: &(impl Env + Files + Print + Eprint),
-    i: usize,
-    several: bool,
-) -> io::Result<()> {
+fn show_file(rt: &(impl Env + Files + Print + Eprint), i: usize, several: bool) -> io::Result<()> {
     let mut path = [0u8; 4096];
     let length = rt.arg(i, &mut path).unwrap_or(0);
     let name = str::from_utf8(&path[..length]).unwrap_or("");
