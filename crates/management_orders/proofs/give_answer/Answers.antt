@@ -1,0 +1,22 @@
+-- `management_orders::give_answer` meets its contract: all as it was with no answer, and with one what its making leaves.
+-- Assumes nothing.
+use borrow.Author.Tests.{not-true, not-false}
+use Rattle.plan_words.specs.Words.{plan_at}
+use Rattle.replies.specs.Areas.{areas}
+use Rattle.management_orders.proofs.Carrying.{no_answer, answer_made}
+use Rattle.management_orders.proofs.give_answer.Goals as goal
+
+pub returns-then-not-step : goal.returns-then-not-step
+returns-then-not-step c =
+    let a = c.args in
+    no_answer (plan_at a.plan.now) a.step
+    (areas a.links.now a.marks.now a.spans.now a.rings.now a.rows.now a.arrivals.now a.reports.now)
+    (not-true a.step.answers c.if-not-step.true)
+
+pub returns : goal.returns
+returns c =
+    let a = c.args in
+    let m = c.make-given in
+    answer_made (plan_at a.plan.now) a.step
+    (areas a.links.now a.marks.now a.spans.now a.rings.now a.rows.now a.arrivals.now a.reports.now)
+    (not-false a.step.answers c.if-not-step.false) m.result m.new.spans m.new.rings m.new.rows m.new.arrivals (m.ensures.value, m.ensures.arrivals_value)
