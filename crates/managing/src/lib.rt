@@ -35,6 +35,7 @@ pub enum Effect {
 }
 
 // What a message does, by what it is.
+#[tactic(auto, unfolding(crate::specs::Managed::asked))]
 fn ask(
     plan: &[u16; 1024],
     links: &[u32; 256],
