@@ -128,7 +128,7 @@ fn run_pieces(
     arrivals: &mut [u64; 1],
     asked: Asked,
     picture: Option<fs::File>,
-    record: File,
+    mut record: File,
     piece: &mut [u8; 65536],
 ) -> u8 {
     let mut rows = [0u64; 2048];
@@ -140,7 +140,6 @@ fn run_pieces(
     let mut held = [0u64; 8192];
     let mut area = [0u8; 65536];
     let mut drawing = [0u8; 65536];
-    let mut record = record;
     let mut turn = first_turn(rt, picture, &mut record, &mut order, &mut drawing);
     let mut turns = u64::MAX;
     while 0 < turns {
