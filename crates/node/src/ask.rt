@@ -13,6 +13,7 @@ pub enum Question {
 }
 
 // One question: its answer, and the output with what was asked for.
+#[tactic(auto, unfolding(crate::specs::Ask::answer_to, crate::specs::Ask::written_for))]
 pub fn ask(
     plan: &[u16; 1024],
     links: &[u32; 256],
