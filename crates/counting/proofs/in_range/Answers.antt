@@ -1,8 +1,8 @@
 -- `counting::in_range` meets its contract: a number is in range exactly if its distance is at most the count sent.
 -- Assumes nothing.
-use Rattle.std.proofs.Common.{ℕ, leb, sym, ap, ◌∙◌, lit<, rules}
+use Rattle.std.proofs.Common.{ℕ, leb, sym, ap, ◌∙◌, lit<}
 use Rattle.counting.proofs.Laws.{is_in_range}
-use Rattle.std.proofs.Common.{◌≡◌, ◌+◌, ◌-◌, ◌*◌, ◌<◌, ◌≤◌, length, ◌/◌, ◌%◌, Bool, true, false, nat_eq, nat_lt, List, [], ◌∷◌, ◌++◌, slice_index_or, slice_set, bit_and, bit_or, Fits, w8, w32, w64, Bor, MutBor}
+use Rattle.std.proofs.Common.{◌<◌}
 use Rattle.counting.specs.Counting as Counting
 use Rattle.counting.proofs.in_range.Goals as goal
 

@@ -1,7 +1,5 @@
 -- `trace_order::set_free` ends: each turn leaves less to be done. Assumes nothing.
-use borrow.Author.Rules.{rules}
 use Prim.Native.Nat.{◌-◌, ◌<◌}
-use Rattle.std.proofs.Common.{◌≡◌, ℕ, ◌+◌, ◌*◌, ◌≤◌, length, Bool, true, false, List, take, drop, get_or}
 use Rattle.trace_order.proofs.set_free.Given as goal
 
 abbrev pub invariant-loop-at : goal.invariant-loop-at
