@@ -16,6 +16,7 @@ use Rattle.replies.specs.Areas.{Areas, Outcome, outcome}
 use Rattle.management_making.specs.Make.{with_made}
 use Rattle.changeover_ending.specs.End.{out_of_service}
 use Rattle.management_steps.specs.declared.Step.{Step}
+use Rattle.management_steps.specs.Step.{draft}
 use Rattle.management_orders.specs.Carry.{answer_reply, with_answer, ended_by, carried}
 use Rattle.promise_runs.proofs.Outcomes.{RegularIn, by_test, both_by_test}
 use Rattle.promise_accounts.specs.Gone.{up_to_f, retired_by_step}

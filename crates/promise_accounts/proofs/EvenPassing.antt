@@ -13,6 +13,7 @@ use Rattle.plan.specs.Find.{place_of}
 use Rattle.plan.proofs.Split.{both_false}
 use Rattle.area_flags.specs.Flags.{flag_at}
 use Rattle.wire.specs.declared.header.Label.{Label}
+use Rattle.replies.specs.Reply.{done}
 use Rattle.replies.specs.Areas.{Areas, Outcome, with_marks}
 use Rattle.route_choice.specs.Which.{none}
 use Rattle.queue_heads.specs.Head.{both}

@@ -1,7 +1,7 @@
 -- The node's own messages never use the one link that they are never to use.
 -- Assumes nothing.
 use mathlib.Core.Path.{◌≡◌, sym, ◌∙◌}
-use mathlib.Core.Bool.{true, not, ◌&&◌, true≢false, and-eq-true_iff}
+use mathlib.Core.Bool.{true, false, not, ◌&&◌, true≢false, and-eq-true_iff}
 use mathlib.Core.List.{List}
 use Prim.Native.Nat.{ℕ, ◌<◌}
 use native.Mathlib.Omega.{arith}

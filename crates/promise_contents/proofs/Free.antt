@@ -14,6 +14,7 @@ use Rattle.queue_rings.proofs.Queues.{taken_other, put_other}
 use Rattle.queue_store.specs.Sound.{bit, tally, is, Sound}
 use Rattle.queue_store.proofs.Held.{taken_tally, put_tally}
 use Rattle.queue_heads.specs.Head.{Queues, head_of, moved, free_ring, freed}
+use Rattle.queue_moving.specs.Move.{apart}
 use Rattle.promise_runs.proofs.Counts.{move_sound}
 use Rattle.promise_ledger.proofs.Balance.{moved_some, moved_none, head_some, head_long, head_room, free_there}
 

@@ -22,6 +22,7 @@ use Rattle.rerouting.specs.Transfer.{transferred}
 use Rattle.managing.specs.Managed.{asked, step_asked, managed}
 use Rattle.passing_passage.specs.Passage.{prohibited_to, tells}
 use Rattle.passing.specs.Pass.{not_reached}
+use Rattle.passing_offering.specs.Host.{sent}
 use Rattle.promise_runs.proofs.Outcomes.{RegularIn, by_test, both_by_test}
 use Rattle.promise_runs.proofs.KeepsMaking.{made_regular}
 use Rattle.promise_accounts.proofs.EvenEnding.{sent_queued}

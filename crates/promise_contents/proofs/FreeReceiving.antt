@@ -10,6 +10,7 @@ use Rattle.plan.specs.declared.data.Plan.{Plan}
 use Rattle.plan.proofs.Split.{both_false}
 use Rattle.queue_store.specs.Sound.{Kinds}
 use Rattle.wire.specs.declared.header.Label.{Label}
+use Rattle.replies.specs.Reply.{done}
 use Rattle.replies.specs.Areas.{Areas, Outcome}
 use Rattle.numbers.specs.Numbers.{is_taken}
 use Rattle.numbers.specs.Taken.{with_taken, taken_by}

@@ -10,7 +10,7 @@ use Rattle.plan.specs.declared.data.Plan.{Plan}
 use Rattle.wire_messages.specs.declared.management.Message.TheVariants.{CBD}
 use Rattle.wire_messages.specs.Management.{heading_of}
 use Rattle.replies.specs.Reply.{done}
-use Rattle.replies.specs.Areas.{Areas, Outcome, outcome, judged}
+use Rattle.replies.specs.Areas.{Areas, areas, Outcome, outcome, judged}
 use Rattle.lookup.specs.Lookup.{slc_of, adjacent_of}
 use Rattle.management_making.specs.Make.{Held, held_in, with_made, makes_reply}
 use Rattle.changeover_cuts.specs.Cuts.{cut_none}

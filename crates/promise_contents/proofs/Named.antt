@@ -9,7 +9,7 @@ use Rattle.plan.specs.declared.data.Plan.{Plan}
 use Rattle.plan.specs.Sound as Plan
 use Rattle.plan.proofs.Split.{alike}
 use Rattle.area_slots.specs.declared.Slot.{Slot}
-use Rattle.queue_store.specs.Sound.{is}
+use Rattle.queue_store.specs.Sound.{is, held}
 use Rattle.node.specs.View.{view_of}
 use Rattle.node.specs.Memory.{Memory}
 use Rattle.node.specs.Call.{call_of}

@@ -12,6 +12,7 @@ use borrow.Table.Steps.{cases}
 use Rattle.queue_rings.specs.Ring.{count_of, take_of}
 use Rattle.queue_store.specs.Sound.{Sound}
 use Rattle.queue_slots.specs.Write.{Write, rows_with, octets_with}
+use Rattle.queue_slots.specs.Message as Message
 use Rattle.queue_rings.proofs.Queues.{found_count}
 use Rattle.queue_store.proofs.Written.{sound_written}
 use Rattle.replies.proofs.Rows.{none_applies}
