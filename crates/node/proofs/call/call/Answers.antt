@@ -1,4 +1,5 @@
 -- `node::call::call` meets its contract: each event gives what its function leaves.
+-- What the calls of the first two leave is searched for: a wrong function called there is refused for what it leaves, not for its name.
 -- Assumes nothing.
 use mathlib.Core.Path.{◌∙◌}
 use Rattle.plan_words.specs.Words.{plan_at}
@@ -16,18 +17,16 @@ unfolding call_of
 returns-in-IntoService c =
     let a = c.args in
     let e = c.in-IntoService in
-    let o = c.into_service in
     told_as (plan_at a.plan.now) a.message.now (memory (areas a.links.now a.marks.now a.spans.now a.rings.now a.rows.now a.arrivals.now a.reports.now) a.octets.now a.out.now) a.event (IntoService e.link) e.is _ _
-    (areas_alone _ _ _ (memory (areas a.links.now a.marks.now a.spans.now a.rings.now a.rows.now a.arrivals.now a.reports.now) a.octets.now a.out.now) o.ensures)
+    (areas_alone _ _ _ (memory (areas a.links.now a.marks.now a.spans.now a.rings.now a.rows.now a.arrivals.now a.reports.now) a.octets.now a.out.now) search)
 
 pub returns-in-Failure : goal.returns-in-Failure
 unfolding call_of
 returns-in-Failure c =
     let a = c.args in
     let e = c.in-Failure in
-    let o = c.fail in
     told_as (plan_at a.plan.now) a.message.now (memory (areas a.links.now a.marks.now a.spans.now a.rings.now a.rows.now a.arrivals.now a.reports.now) a.octets.now a.out.now) a.event (Failure e.link) e.is _ _
-    (areas_alone _ _ _ (memory (areas a.links.now a.marks.now a.spans.now a.rings.now a.rows.now a.arrivals.now a.reports.now) a.octets.now a.out.now) o.ensures)
+    (areas_alone _ _ _ (memory (areas a.links.now a.marks.now a.spans.now a.rings.now a.rows.now a.arrivals.now a.reports.now) a.octets.now a.out.now) search)
 
 pub returns-in-Send : goal.returns-in-Send
 unfolding call_of
