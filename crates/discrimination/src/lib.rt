@@ -6,8 +6,8 @@ ghost use Rattle.std.specs.Prelude.{◌≡◌};
 ghost use Rattle.discrimination.specs.Discrimination as Discrimination;
 
 use plan_words::read::{code, ni};
-use wire::header::{Header, HeaderRead, Label, read_header};
-use wire_messages::management::{Message, MessageRead, read_message};
+use wire::header::{Header, Label, read_header};
+use wire_messages::management::{Message, read_message};
 
 // A management message for us, and who sent it with which SLC.
 #[derive(Clone, Copy)]
@@ -44,7 +44,7 @@ fn ours(plan: &[u16; 1024], header: Header, message: &[u8]) -> Came
             Came::Foreign
         };
     }
-    let MessageRead::Read(read) = read_message(message) else {
+    let Some(read) = read_message(message) else {
         return Came::Malformed;
     };
     if header.ni == ni(plan) {
@@ -63,7 +63,7 @@ fn ours(plan: &[u16; 1024], header: Header, message: &[u8]) -> Came
 pub fn from_link(plan: &[u16; 1024], message: &[u8]) -> Came
     ensures { result ≡ Discrimination.from_link (plan_of plan) message.now }
 {
-    let HeaderRead::Read(header) = read_header(message) else {
+    let Some(header) = read_header(message) else {
         return Came::Malformed;
     };
     let label = header.label;
@@ -82,7 +82,7 @@ pub fn from_link(plan: &[u16; 1024], message: &[u8]) -> Came
 pub fn from_host(plan: &[u16; 1024], message: &[u8]) -> Came
     ensures { result ≡ Discrimination.from_host (plan_of plan) message.now }
 {
-    let HeaderRead::Read(header) = read_header(message) else {
+    let Some(header) = read_header(message) else {
         return Came::Malformed;
     };
     let label = header.label;

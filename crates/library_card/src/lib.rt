@@ -47,7 +47,7 @@ pub fn sent_one(link: Record) -> Sent
     Sent {
         link: Record {
             sent: number,
-            acknowledged: link.acknowledged,
+            ..link
         },
         number,
     }
@@ -67,8 +67,8 @@ pub fn acknowledged_to(link: Record, b: u8) -> Acknowledged
     if accepts(link, b) {
         return Acknowledged {
             link: Record {
-                sent: link.sent,
                 acknowledged: b % 128,
+                ..link
             },
             accepted: true,
         };
@@ -84,9 +84,9 @@ pub fn transfer_point_note_sent(link: &mut Record) -> u8
     ensures value { result ≡ (Card.sent_one link.old).number }
     ensures link_after { link.new ≡ (Card.sent_one link.old).link }
 {
-    let o = sent_one(*link);
-    *link = o.link;
-    o.number
+    let after = sent_one(*link);
+    *link = after.link;
+    after.number
 }
 
 // Messages up to b are acknowledged: the record is brought up to date if b is in range, and left as it was if not.
@@ -94,7 +94,7 @@ pub fn transfer_point_note_acknowledged(link: &mut Record, b: u8) -> bool
     ensures value { result ≡ (Card.acknowledged_to link.old b).accepted }
     ensures link_after { link.new ≡ (Card.acknowledged_to link.old b).link }
 {
-    let o = acknowledged_to(*link, b);
-    *link = o.link;
-    o.accepted
+    let after = acknowledged_to(*link, b);
+    *link = after.link;
+    after.accepted
 }

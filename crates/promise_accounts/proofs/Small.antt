@@ -7,9 +7,9 @@ use Prim.Native.Nat.{ℕ, ◌≤◌}
 use lib.Dec.{leb}
 use lib.ListN.{length}
 use borrow.Author.Tests.{leb-true}
+use Rattle.std.specs.Prelude.{Option, Some, None}
 use Rattle.plan.specs.declared.data.Plan.{Plan}
-use Rattle.wire.specs.declared.header.HeaderRead.{HeaderRead}
-use Rattle.wire.specs.declared.header.HeaderRead.TheVariants as Read
+use Rattle.wire.specs.declared.header.Header.{Header}
 use Rattle.wire.specs.Header.{header_of}
 use Rattle.discrimination.specs.declared.Came.{Came}
 use Rattle.discrimination.specs.declared.Came.TheVariants.{Malformed, Foreign, Delivered, Managed, Passed}
@@ -42,20 +42,20 @@ module _ (plan : Plan) (message : List ℕ) where
   pub link_small : Small (from_link plan message) (length message)
   unfolding Small from_link_by
   link_small =
-      by_test (λ (read : HeaderRead). Small (from_link_by plan message read) (length message))
+      by_test (λ (read : Option Header). Small (from_link_by plan message read) (length message))
       (leb 5 (length message) && leb (length message) 273)
-      (Read.Read (header_of message))
-      Read.Malformed
-      (λ e. all_small (length message) (within e) (from_link_by plan message (Read.Read (header_of message))))
+      (Some (header_of message))
+      None
+      (λ e. all_small (length message) (within e) (from_link_by plan message (Some (header_of message))))
       (λ e. tt)
 
   -- from the host
   pub host_small : Small (from_host plan message) (length message)
   unfolding Small from_host_by
   host_small =
-      by_test (λ (read : HeaderRead). Small (from_host_by plan read) (length message))
+      by_test (λ (read : Option Header). Small (from_host_by plan read) (length message))
       (leb 5 (length message) && leb (length message) 273)
-      (Read.Read (header_of message))
-      Read.Malformed
-      (λ e. all_small (length message) (within e) (from_host_by plan (Read.Read (header_of message))))
+      (Some (header_of message))
+      None
+      (λ e. all_small (length message) (within e) (from_host_by plan (Some (header_of message))))
       (λ e. tt)

@@ -6,13 +6,11 @@ use Prim.Native.Nat.{ℕ, ◌<◌}
 use native.Mathlib.Nat.{mod-lt}
 use lib.Dec.{eqb, leb, lit<}
 use lib.ListN.{length}
+use Rattle.std.specs.Prelude.{Option, Some, None}
 use Rattle.plan.specs.declared.data.Plan.{Plan}
 use Rattle.wire.specs.declared.header.Header.{Header}
-use Rattle.wire.specs.declared.header.HeaderRead.{HeaderRead}
-use Rattle.wire.specs.declared.header.HeaderRead.TheVariants as Read
 use Rattle.wire.specs.Header.{header_of}
-use Rattle.wire_messages.specs.declared.management.MessageRead.{MessageRead}
-use Rattle.wire_messages.specs.declared.management.MessageRead.TheVariants as Message
+use Rattle.wire_messages.specs.declared.management.Message.{Message}
 use Rattle.wire_messages.specs.Management.{read_message}
 use Rattle.discrimination.specs.declared.Came.{Came}
 use Rattle.discrimination.specs.declared.Came.TheVariants.{Malformed, Foreign, Delivered, Managed, Passed}
@@ -39,17 +37,17 @@ module _ (plan : Plan) (message : List ℕ) where
   unfolding Coded
   ours_coded came coded = by_test Coded (eqb header.ni plan.ni) came Foreign (λ e. coded) (λ e. tt)
 
-  managed_coded : (read : MessageRead) → Coded (managed plan header read)
+  managed_coded : (read : Option Message) → Coded (managed plan header read)
   unfolding managed Coded
-  managed_coded Message.Malformed = tt
-  managed_coded (Message.Read order) = ours_coded _ tt
+  managed_coded None = tt
+  managed_coded (Some order) = ours_coded _ tt
 
   pub link_coded : Coded (from_link plan message)
   unfolding from_link_by ours Coded
   link_coded =
-      by_test (λ (read : HeaderRead). Coded (from_link_by plan message read)) (leb 5 (length message) && leb (length message) 273)
-      (Read.Read header)
-      Read.Malformed
+      by_test (λ (read : Option Header). Coded (from_link_by plan message read)) (leb 5 (length message) && leb (length message) 273)
+      (Some header)
+      None
       (λ e.
       by_test Coded (eqb header.label.dpc plan.code) (ours plan header message) (of_ours plan header (Passed header.label))
       (λ own.
@@ -62,9 +60,9 @@ module _ (plan : Plan) (message : List ℕ) where
   pub host_coded : Coded (from_host plan message)
   unfolding from_host_by Coded
   host_coded =
-      by_test (λ (read : HeaderRead). Coded (from_host_by plan read)) (leb 5 (length message) && leb (length message) 273)
-      (Read.Read header)
-      Read.Malformed
+      by_test (λ (read : Option Header). Coded (from_host_by plan read)) (leb 5 (length message) && leb (length message) 273)
+      (Some header)
+      None
       (λ e.
       by_test Coded (eqb header.si 0 || not (eqb header.label.opc plan.code)) Malformed (of_ours plan header (Passed header.label))
       (λ bad. tt)

@@ -3,9 +3,9 @@
 use mathlib.Core.Path.{◌≡◌, ap, ◌∙◌}
 use Prim.Native.Nat.{ℕ, ◌≤◌, ◌<◌}
 use native.Mathlib.Omega.{arith}
+use Rattle.std.specs.Prelude.{Some}
 use Rattle.area_slots.specs.declared.Slot.{Slot}
 use Rattle.wire_messages.specs.declared.management.Message.{Message}
-use Rattle.wire_messages.specs.declared.management.MessageRead.TheVariants.{Read}
 use Rattle.sending.specs.Send.{held_message}
 use Rattle.sending.proofs.HeldBack.{held_as, row_reads}
 use Rattle.promise_contents.specs.Made.{New, Nothing, User, Made, Written}
@@ -20,7 +20,7 @@ written_number (Made draft) number slot row written = ap (λ (s : Slot). s.arriv
 -- a slot's row says a message that can be sent
 pub record Fit (slot : ℕ) (row : Slot) : Type 0 where
   pub user : slot < 192 → (5 ≤ row.field) × (row.field ≤ 273)
-  pub management : 192 ≤ slot → (message : Message) × (held_message row ≡ Read message)
+  pub management : 192 ≤ slot → (message : Message) × (held_message row ≡ Some message)
 
 pub written_fits : (new : New) (number slot : ℕ) (row : Slot) → Written new number slot row → Fit slot row
 unfolding Written

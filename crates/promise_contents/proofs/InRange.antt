@@ -10,6 +10,7 @@ use native.Mathlib.Omega.{arith}
 use lib.Dec.{eqb, ltb, leb, lit<}
 use lib.ListN.{length, take, drop}
 use borrow.Author.Tests.{eqb-true, ltb-true, leb-false}
+use Rattle.std.specs.Prelude.{Option, Some, None}
 use Rattle.plan.specs.declared.data.Plan.{Plan}
 use Rattle.plan.specs.Data.{set_at, link_at}
 use Rattle.plan.specs.Find.{place_of}
@@ -21,13 +22,10 @@ use Rattle.area_rows.specs.Rows.{word_at}
 use Rattle.area_flags.specs.Flags.{flag_at}
 use Rattle.area_links.specs.declared.LinkRecord.{LinkRecord}
 use Rattle.area_links.specs.LinkRecords.{record_at}
-use Rattle.wire.specs.declared.header.HeaderRead.{HeaderRead}
-use Rattle.wire.specs.declared.header.HeaderRead.TheVariants as Read
+use Rattle.wire.specs.declared.header.Header.{Header}
 use Rattle.wire.specs.Header.{from_low, header_of, Octets}
 use Rattle.wire_messages.specs.declared.management.Message.{Message}
 use Rattle.wire_messages.specs.declared.management.Message.TheVariants.{COO, COA, CBD, CBA, ECO, ECA, TFP, TFA, RST}
-use Rattle.wire_messages.specs.declared.management.MessageRead.{MessageRead}
-use Rattle.wire_messages.specs.declared.management.MessageRead.TheVariants as Message
 use Rattle.wire_messages.specs.Management.{read_message}
 use Rattle.wire_writing.specs.Writing.{FieldInRange}
 use Rattle.wire_writing.proofs.SpareBits.{read_in_range}
@@ -154,10 +152,10 @@ CameRanged (Managed order) = FieldInRange order.message × (order.point < 16384)
 CameRanged (Passed label) = label.dpc < 16384
 
 module _ (plan : Plan) (message : List ℕ) (octets : Octets message) where
-  managed_ranged : (read : MessageRead) → read_message message ≡ read → CameRanged (managed plan (header_of message) read)
+  managed_ranged : (read : Option Message) → read_message message ≡ read → CameRanged (managed plan (header_of message) read)
   unfolding managed CameRanged
-  managed_ranged Message.Malformed e = tt
-  managed_ranged (Message.Read order) e =
+  managed_ranged None e = tt
+  managed_ranged (Some order) e =
       let word = from_low (take 4 (drop 1 message)) in
       by_test CameRanged (eqb (header_of message).ni plan.ni) _ Foreign
       (λ same. (read_in_range message order octets e, mod-lt (word / 16384) (lit< tt), mod-lt (word / 268435456) (lit< tt)))
@@ -174,9 +172,9 @@ module _ (plan : Plan) (message : List ℕ) (octets : Octets message) where
   unfolding from_link_by CameRanged
   came_in_range =
       let header = header_of message in
-      by_test (λ (read : HeaderRead). CameRanged (from_link_by plan message read)) (leb 5 (length message) && leb (length message) 273)
-      (Read.Read header)
-      Read.Malformed
+      by_test (λ (read : Option Header). CameRanged (from_link_by plan message read)) (leb 5 (length message) && leb (length message) 273)
+      (Some header)
+      None
       (λ e.
       by_test CameRanged (eqb header.label.dpc plan.code) (ours plan header message) _ (λ same. ours_ranged)
       (λ other.

@@ -10,6 +10,7 @@ use lib.Dec.{eqb, ltb, leb}
 use lib.ListN.{length, take, drop}
 use lib.Seq.{take-append_seam}
 use borrow.Author.Tests.{lt-ltb, le-ltb, le-leb, ltb-false, eq-eqb}
+use Rattle.std.specs.Prelude.{Some}
 use Rattle.plan.specs.declared.data.Plan.{Plan}
 use Rattle.plan.proofs.Split.{both_false}
 use Rattle.area_links.specs.LinkRecords.{record_at}
@@ -21,7 +22,6 @@ use Rattle.queue_slots.proofs.Messages.{fits_there, octets_length}
 use Rattle.replies.specs.declared.Answer.{Answer}
 use Rattle.lookup.specs.Lookup.{is_link}
 use Rattle.wire_messages.specs.declared.management.Message.{Message}
-use Rattle.wire_messages.specs.declared.management.MessageRead.TheVariants.{Read}
 use Rattle.wire_writing.specs.Writing.{octets_of}
 use Rattle.sending.specs.Send.{reply_of, first_unsent, held_message, held_label, held_count_by, held_out_by, slot_count, slot_out, answer_of, out_after}
 use Rattle.node.specs.declared.call.Event.TheVariants.{Send}
@@ -90,18 +90,18 @@ module _ (plan : Plan) (links spans rings rows octets : List ℕ) (link : ℕ) (
         (copied_whole octets out slot (slot_at rows slot).field user small (room_there done))
 
   -- a management message that the row reads as
-  module _ (done : reply ≡ 0) (there : 192 ≤ slot) (message : Message) (reads : held_message (slot_at rows slot) ≡ Read message) where
+  module _ (done : reply ≡ 0) (there : 192 ≤ slot) (message : Message) (reads : held_message (slot_at rows slot) ≡ Some message) where
     abbrev known : Slot
     known = slot_at rows slot
 
     abbrev spelt : List ℕ
     spelt = octets_of plan.ni (held_label plan known) message
 
-    spelt_count : held_count_by plan known out (Read message) ≡ length spelt
+    spelt_count : held_count_by plan known out (Some message) ≡ length spelt
     unfolding held_count_by
     spelt_count = simp (le-ltb (length out) 273 (room_there done))
 
-    spelt_out : held_out_by plan known out (Read message) ≡ spelt ++ drop (length spelt) out
+    spelt_out : held_out_by plan known out (Some message) ≡ spelt ++ drop (length spelt) out
     unfolding held_out_by
     spelt_out = simp (le-ltb (length out) 273 (room_there done))
 
@@ -155,7 +155,7 @@ module _ (plan : Plan) (link : ℕ) (given : List ℕ) (m : Memory) (none : (cal
       }
 
   -- the octets of the message that a management slot's row reads as leave
-  pub made_writes : 192 ≤ next → (message : Message) → held_message row ≡ Read message
+  pub made_writes : 192 ≤ next → (message : Message) → held_message row ≡ Some message
       → Writes (call_of plan (Send link) given m) m.out (octets_of plan.ni (held_label plan row) message)
   unfolding call_of sends
   made_writes there message reads =

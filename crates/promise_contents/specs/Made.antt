@@ -1,14 +1,12 @@
 -- "management messages the node makes" (R84): what each call can write into a free slot, and the octets that leave of a message that it made.
-use Rattle.std.specs.Prelude.{ℕ, ◌≤◌, ◌<◌, ◌≡◌, cond, List, ◌++◌, length, drop}
+use Rattle.std.specs.Prelude.{ℕ, ◌≤◌, ◌<◌, ◌≡◌, cond, List, ◌++◌, length, drop, Some}
 use Rattle.constants.specs.Constants.{no_link}
 use Rattle.plan.specs.declared.data.Plan.{Plan}
 use Rattle.area_slots.specs.declared.Slot.{Slot}
 use Rattle.queue_slots.specs.Message.{management_row}
 use Rattle.wire.specs.declared.header.Label.{Label}
-use Rattle.wire.specs.declared.header.HeaderRead.TheVariants as HeaderRead
 use Rattle.wire.specs.Header.{read_header}
 use Rattle.wire_messages.specs.declared.management.Message.TheVariants.{CBD}
-use Rattle.wire_messages.specs.declared.management.MessageRead.TheVariants as MessageRead
 use Rattle.wire_messages.specs.Management.{heading_of, field_of, read_message}
 use Rattle.wire_writing.specs.Writing.{octets_of, FieldInRange}
 use Rattle.lookup.specs.Lookup.{slc_of, adjacent_of}
@@ -102,8 +100,8 @@ pub record DraftInRange (draft : Draft) : Type 0 where
 -- another point reads of its octets SI 0, our NI, that label, and that message
 pub record Understood (plan : Plan) (draft : Draft) : Type 0 where
   pub header_read :
-      read_header (octets_made plan draft) ≡ HeaderRead.Read (record { si = 0; ni = plan.ni; label = label_to plan draft.point draft.slc })
-  pub message_read : read_message (octets_made plan draft) ≡ MessageRead.Read draft.message
+      read_header (octets_made plan draft) ≡ Some (record { si = 0; ni = plan.ni; label = label_to plan draft.point draft.slc })
+  pub message_read : read_message (octets_made plan draft) ≡ Some draft.message
 
 -- a call writes octets at the start of the lent output, as many as it answers, and the rest stays: "unchanged but for what reply 0 writes at their
 -- start" (R69)

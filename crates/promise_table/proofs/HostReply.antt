@@ -6,10 +6,10 @@ use mathlib.Core.List.{List, ◌∷◌}
 use mathlib.Core.Path.{◌≡◌, refl, ◌∙◌}
 use lib.Dec.{eqb}
 use lib.ListN.{length}
+use Rattle.std.specs.Prelude.{Option, Some, None}
 use Rattle.plan.specs.declared.data.Plan.{Plan}
 use Rattle.wire.specs.declared.header.Label.{Label}
-use Rattle.wire.specs.declared.header.HeaderRead.{HeaderRead}
-use Rattle.wire.specs.declared.header.HeaderRead.TheVariants as Read
+use Rattle.wire.specs.declared.header.Header.{Header}
 use Rattle.wire.specs.Header.{read_header}
 use Rattle.replies.specs.Reply.{Row, row, first}
 use Rattle.replies.specs.Areas.{Areas, Outcome, refused}
@@ -27,10 +27,10 @@ use Rattle.promise_table.proofs.Judged.{judged_done}
 
 -- the kinds that a message from the host can be
 module _ (P : Came → Type 0) (malformed : P Malformed) (foreign : P Foreign) (other : (label : Label) → P (Passed label)) where
-  by_header : (plan : Plan) (read : HeaderRead) → P (Discrimination.from_host_by plan read)
+  by_header : (plan : Plan) (read : Option Header) → P (Discrimination.from_host_by plan read)
   unfolding Discrimination.from_host_by
-  by_header plan Read.Malformed = malformed
-  by_header plan (Read.Read header) =
+  by_header plan None = malformed
+  by_header plan (Some header) =
       either P (eqb header.si 0 || not (eqb header.label.opc plan.code)) Malformed _ malformed
       (either P (eqb header.ni plan.ni) (Passed header.label) Foreign (other header.label) foreign)
 

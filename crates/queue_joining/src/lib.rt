@@ -10,7 +10,7 @@ use constants::{FREE_MANAGEMENT, FREE_USER};
 use queue_heads::move_head;
 use queue_rings::ring::count;
 use queue_slots::message::{write_management, write_user};
-use wire_messages::management::{Message, field, heading};
+use wire_messages::management::Message;
 
 // A user message goes to the end of a ring: 0, or 7 or 10 where it can't be held.
 #[tactic(auto, unfolding(crate::specs::Queue::user_reply, crate::specs::Queue::user_queues, crate::specs::Queue::rows_with_user, crate::specs::Queue::user_octets, crate::specs::Queue::user_arrivals, replies::specs::Reply::first))]
@@ -79,10 +79,10 @@ pub fn queue_management(
         rows,
         free.slot,
         next,
-        heading(message) as u64,
+        message.heading() as u64,
         point as u64,
         slc as u64,
-        field(message) as u64,
+        message.field() as u64,
     );
     arrivals[0] = next + 1;
     0

@@ -5,6 +5,7 @@ use mathlib.Core.List.{List, ◌∷◌, ◌++◌}
 use Prim.Native.Nat.{ℕ, ◌+◌, ◌*◌, ◌/◌, ◌%◌, ◌<◌}
 use native.Mathlib.Omega.{arith}
 use lib.ListN.{length}
+use Rattle.std.specs.Prelude.{Some}
 use Rattle.plan.specs.declared.data.Plan.{Plan}
 use Rattle.area_slots.specs.declared.Slot.{Slot}
 use Rattle.area_slots.specs.SlotRows.{slot_at}
@@ -14,8 +15,6 @@ use Rattle.wire.specs.declared.header.Label.{Label}
 use Rattle.wire.specs.Header.{sio_of, low_first, label_word}
 use Rattle.wire_messages.specs.declared.management.Message.{Message}
 use Rattle.wire_messages.specs.declared.management.Message.TheVariants.{COO, COA, CBD, CBA, ECO, ECA, TFP, TFA, RST}
-use Rattle.wire_messages.specs.declared.management.MessageRead.{MessageRead}
-use Rattle.wire_messages.specs.declared.management.MessageRead.TheVariants.{Read}
 use Rattle.wire_messages.specs.Management.{heading_of, field_of}
 use Rattle.wire_writing.specs.Writing.{part_of, octets_of, FieldInRange}
 use Rattle.sending.specs.Send.{held_message, held_label}
@@ -87,7 +86,7 @@ module _ (arrival point slc : ℕ) where
   row_of message = management_row arrival (heading_of message) point slc (field_of message)
 
   -- it reads as a message
-  pub row_reads : (message : Message) → held_message (row_of message) ≡ Read (held_as message)
+  pub row_reads : (message : Message) → held_message (row_of message) ≡ Some (held_as message)
   row_reads (COO fsn) = refl
   row_reads (COA fsn) = refl
   row_reads (CBD code) = refl
@@ -99,12 +98,12 @@ module _ (arrival point slc : ℕ) where
   row_reads (RST x) = refl
 
   -- a message in range reads back as itself
-  pub row_back : (message : Message) → FieldInRange message → held_message (row_of message) ≡ Read message
-  row_back message h = row_reads message ∙ ap Read (held_as_itself message h)
+  pub row_back : (message : Message) → FieldInRange message → held_message (row_of message) ≡ Some message
+  row_back message h = row_reads message ∙ ap Some (held_as_itself message h)
 
   -- and so it does out of the rows that it was written into
   pub held_back : (rows : List ℕ) (slot : ℕ) → length rows ≡ 2048 → slot < 256 → (message : Message) → FieldInRange message
-      → held_message (slot_at (management_rows rows slot arrival (heading_of message) point slc (field_of message)) slot) ≡ Read message
+      → held_message (slot_at (management_rows rows slot arrival (heading_of message) point slc (field_of message)) slot) ≡ Some message
   held_back rows slot long there message h =
       ap held_message (management_read rows slot arrival (heading_of message) point slc (field_of message) long there) ∙ row_back message h
 

@@ -1,6 +1,6 @@
 -- "Send (open): the first unsent message leaves with the next FSN, counted modulo 128 on from the last acknowledged, and stays in the queue.
 -- None unsent, or 127 unacknowledged: reply 5." (R101, R102, R103, R104, R105)
-use Rattle.std.specs.Prelude.{ℕ, ◌/◌, ◌%◌, false, cond, not, ◌||◌, List, [], ◌∷◌, eqb, ltb, leb, length}
+use Rattle.std.specs.Prelude.{ℕ, ◌/◌, ◌%◌, false, cond, not, ◌||◌, List, [], ◌∷◌, eqb, ltb, leb, length, Option, Some, None}
 use Rattle.constants.specs.Constants.{link_count, state_open}
 use Rattle.plan.specs.declared.data.Plan.{Plan}
 use Rattle.area_slots.specs.declared.Slot.{Slot}
@@ -10,8 +10,7 @@ use Rattle.area_slots.specs.SlotRows.{slot_at}
 use Rattle.queue_rings.specs.Ring.{count_of, at_of}
 use Rattle.queue_slots.specs.Message.{copied, copied_size}
 use Rattle.wire.specs.declared.header.Label.{Label}
-use Rattle.wire_messages.specs.declared.management.MessageRead.{MessageRead}
-use Rattle.wire_messages.specs.declared.management.MessageRead.TheVariants.{Read, Malformed}
+use Rattle.wire_messages.specs.declared.management.Message.{Message}
 use Rattle.wire_writing.specs.Writing.{octets_of, written_into, written_count}
 use Rattle.wire_messages.specs.Management.{listed}
 use Rattle.replies.specs.declared.Answer.{Answer}
@@ -41,7 +40,7 @@ unfoldable pub first_unsent : List ℕ → List ℕ → List ℕ → ℕ → ℕ
 first_unsent links spans rings link = (at_of spans rings link (record_at links link).sent).slot
 
 -- the management message that is held as its fields
-abbrev pub held_message : Slot → MessageRead
+abbrev pub held_message : Slot → Option Message
 held_message known = listed (known.heading % 256) (known.field % 256) (known.field / 256 % 256)
 
 -- its label: the DPC is the point that it goes to, the OPC is ours (R30)
@@ -49,13 +48,13 @@ abbrev pub held_label : Plan → Slot → Label
 held_label plan known = record { dpc = known.point % 16384; opc = plan.code; sls = known.sls % 16 }
 
 -- the octets that leave of it, by what it is
-unfoldable pub held_count_by : Plan → Slot → List ℕ → MessageRead → ℕ
-held_count_by plan known out Malformed = 0
-held_count_by plan known out (Read message) = written_count out (octets_of plan.ni (held_label plan known) message)
+unfoldable pub held_count_by : Plan → Slot → List ℕ → Option Message → ℕ
+held_count_by plan known out None = 0
+held_count_by plan known out (Some message) = written_count out (octets_of plan.ni (held_label plan known) message)
 
-unfoldable pub held_out_by : Plan → Slot → List ℕ → MessageRead → List ℕ
-held_out_by plan known out Malformed = out
-held_out_by plan known out (Read message) = written_into out (octets_of plan.ni (held_label plan known) message)
+unfoldable pub held_out_by : Plan → Slot → List ℕ → Option Message → List ℕ
+held_out_by plan known out None = out
+held_out_by plan known out (Some message) = written_into out (octets_of plan.ni (held_label plan known) message)
 
 abbrev pub held_count : Plan → Slot → List ℕ → ℕ
 held_count plan known out = held_count_by plan known out (held_message known)

@@ -17,7 +17,7 @@ use queue_rings::ring::{at, count};
 use queue_slots::message::copy_octets;
 use replies::{Answer, plain};
 use wire::header::Label;
-use wire_messages::management::{MessageRead, listed};
+use wire_messages::management::listed;
 use wire_writing::write_message;
 
 // The reply.
@@ -62,7 +62,7 @@ fn write_held(plan: &[u16; 1024], known: Slot, out: &mut [u8]) -> usize
     let heading = (known.heading % 256) as u8;
     let low = (known.field % 256) as u8;
     let high = (known.field / 256 % 256) as u8;
-    let MessageRead::Read(message) = listed(heading, low, high) else {
+    let Some(message) = listed(heading, low, high) else {
         return 0;
     };
     let opc = code(plan);

@@ -2,8 +2,8 @@
 use text::part::{between, field, same};
 use text_hex::hex::{Octets, hex};
 use trace_rows::held::Message;
-use wire::header::{HeaderRead, read_header};
-use wire_messages::management::{Message as Management, MessageRead, read_message};
+use wire::header::{delivered, read_header};
+use wire_messages::management::{Message as Management, read_message};
 
 // The octets of a line, at the start of the area; how many there are, 0 of a line that has none.
 pub fn octets_of(line: &[u8], out: &mut [u8; 1024]) -> usize {
@@ -25,7 +25,7 @@ pub fn octets_of(line: &[u8], out: &mut [u8; 1024]) -> usize {
 
 // What is kept of a message, by its octets; its arrival number and place aren't known yet.
 pub fn message_of(octets: &[u8], line: u64) -> Message {
-    let HeaderRead::Read(header) = read_header(octets) else {
+    let Some(header) = read_header(octets) else {
         return made(line, 0, 0, 0, 0);
     };
     let label = header.label;
@@ -36,7 +36,7 @@ pub fn message_of(octets: &[u8], line: u64) -> Message {
         label.sls as u64,
         0,
     );
-    let own = between(octets, 5, octets.len());
+    let own = delivered(octets);
     message.si = header.si as u64;
     message.length = own.len() as u64;
     message.octets = packed(own);
@@ -65,44 +65,18 @@ pub fn made(line: u64, origin: u64, destination: u64, sls: u64, name: u64) -> Me
     }
 }
 
-// The first eight octets in one number, the first the lowest.
+// The first eight octets in one number, the first the lowest; 0 for one that isn't there.
 fn packed(octets: &[u8]) -> u64 {
-    let low = word(
-        octet(octets, 0),
-        octet(octets, 1),
-        octet(octets, 2),
-        octet(octets, 3),
-    );
-    let high = word(
-        octet(octets, 4),
-        octet(octets, 5),
-        octet(octets, 6),
-        octet(octets, 7),
-    );
-    joined(low, high)
-}
-
-fn word(a: u8, b: u8, c: u8, d: u8) -> u32 {
-    (a as u32) + 256 * ((b as u32) + 256 * ((c as u32) + 256 * (d as u32)))
-}
-
-fn joined(low: u32, high: u32) -> u64 {
-    (low as u64) + 4294967296 * (high as u64)
-}
-
-// The octet at a place, 0 past the end.
-fn octet(octets: &[u8], at: usize) -> u8 {
-    if at < octets.len() { octets[at] } else { 0 }
+    let mut eight = [0u8; 8];
+    let count = octets.len().min(8);
+    eight[..count].copy_from_slice(&octets[..count]);
+    u64::from_le_bytes(eight)
 }
 
 // The number that a COO or COA carries; 0 of any other message.
 pub fn changeover_number(octets: &[u8]) -> u64 {
-    let MessageRead::Read(message) = read_message(octets) else {
-        return 0;
-    };
-    match message {
-        Management::COO(number) => number as u64,
-        Management::COA(number) => number as u64,
+    match read_message(octets) {
+        Some(Management::COO(number) | Management::COA(number)) => number as u64,
         _ => 0,
     }
 }

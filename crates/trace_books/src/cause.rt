@@ -7,7 +7,7 @@ use text::part::{between, field, same};
 use text::put::put;
 use text_pages::put_number;
 use trace_messages::told::NO_QUEUE;
-use wire_messages::management::{Message as Management, MessageRead, read_message};
+use wire_messages::management::{Message as Management, read_message};
 
 // A timer of its changeover; a changeover message, with its number, and whether that tells what the far end took; or the failure of a waiting link.
 #[derive(Clone, Copy)]
@@ -31,7 +31,7 @@ pub fn cause_of(before: LinkRecord, text: &[u8], octets: &[u8]) -> Cause {
     if same(word, b"t2") {
         return Cause::T2;
     }
-    let MessageRead::Read(message) = read_message(octets) else {
+    let Some(message) = read_message(octets) else {
         return Cause::Failure;
     };
     match message {

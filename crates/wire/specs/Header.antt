@@ -1,9 +1,7 @@
 -- The first five octets of every message, SIO and label, and what follows them: "Octets on the wire" in the paper.
-use Rattle.std.specs.Prelude.{ℕ, zero, suc, ◌+◌, ◌*◌, ◌/◌, ◌%◌, ◌<◌, cond, ◌&&◌, List, [], ◌∷◌, length, get_or, take, drop, leb}
+use Rattle.std.specs.Prelude.{ℕ, zero, suc, ◌+◌, ◌*◌, ◌/◌, ◌%◌, ◌<◌, cond, ◌&&◌, List, [], ◌∷◌, length, get_or, take, drop, leb, Option, Some, None}
 use Rattle.wire.specs.declared.header.Label.{Label}
 use Rattle.wire.specs.declared.header.Header.{Header}
-use Rattle.wire.specs.declared.header.HeaderRead.{HeaderRead}
-use Rattle.wire.specs.declared.header.HeaderRead.TheVariants.{Read, Malformed}
 
 -- "SIO: low four bits SI, top two bits network indicator (NI); the middle two are spare." (R27, R28, R36)
 abbrev pub sio_of : ℕ → ℕ → ℕ
@@ -45,8 +43,8 @@ header_of message =
     }
 
 -- "A message is the SIO and then the SIF: 5 to 273 octets" (R26); "Malformed is: fewer than 5 or more than 273 octets" (R63)
-abbrev pub read_header : List ℕ → HeaderRead
-read_header message = cond (leb 5 (length message) && leb (length message) 273) (Read (header_of message)) Malformed
+abbrev pub read_header : List ℕ → Option Header
+read_header message = cond (leb 5 (length message) && leb (length message) 273) (Some (header_of message)) None
 
 -- "the host gets the part of its own octets after the label" (R40, R205)
 abbrev pub after_label : List ℕ → List ℕ

@@ -1,5 +1,5 @@
 // SIO and label: the five octets that every message begins with, and the part behind them.
-ghost use Rattle.std.specs.Prelude.{◌≡◌, [], ◌∷◌};
+ghost use Rattle.std.specs.Prelude.{◌≡◌};
 ghost use Rattle.wire.specs.Header.{label_of, from_low, read_header, after_label};
 
 // Where a message goes and comes from. With SI 0 the SLS is the SLC.
@@ -17,36 +17,28 @@ pub struct Header {
     pub label: Label,
 }
 
-#[derive(Clone, Copy)]
-pub enum HeaderRead {
-    Read(Header),
-    // Fewer than 5 or more than 273 octets.
-    Malformed,
-}
-
-// SIO and label of a message of any length.
-pub fn read_header(message: &[u8]) -> HeaderRead
+// SIO and label of a message of any length; none of a malformed one: fewer than 5 or more than 273 octets.
+pub fn read_header(message: &[u8]) -> Option<Header>
     ensures { result ≡ read_header message.now }
 {
-    if message.len() < 5 {
-        return HeaderRead::Malformed;
-    }
+    let &[sio, a, b, c, d, ..] = message else {
+        return None;
+    };
     if 273 < message.len() {
-        return HeaderRead::Malformed;
+        return None;
     }
-    let label = read_label(message[1], message[2], message[3], message[4]);
-    HeaderRead::Read(Header {
-        si: message[0] % 16,
-        ni: message[0] / 64,
-        label,
+    Some(Header {
+        si: sio % 16,
+        ni: sio / 64,
+        label: read_label([a, b, c, d]),
     })
 }
 
 // The label in four octets, the lowest first.
-fn read_label(a: u8, b: u8, c: u8, d: u8) -> Label
-    ensures { result ≡ label_of (from_low (a ∷ b ∷ c ∷ d ∷ [])) }
+fn read_label(octets: [u8; 4]) -> Label
+    ensures { result ≡ label_of (from_low octets) }
 {
-    let word = (a as u32) + 256 * ((b as u32) + 256 * ((c as u32) + 256 * (d as u32)));
+    let word = u32::from_le_bytes(octets);
     Label {
         dpc: (word % 16384) as u16,
         opc: (word / 16384 % 16384) as u16,
@@ -58,9 +50,5 @@ fn read_label(a: u8, b: u8, c: u8, d: u8) -> Label
 pub fn delivered(message: &[u8]) -> &[u8]
     ensures { result.now ≡ after_label message.now }
 {
-    if message.len() < 5 {
-        &message[..0]
-    } else {
-        &message[5..]
-    }
+    message.get(5..).unwrap_or(&[])
 }

@@ -1,9 +1,7 @@
 -- The nine management messages: the paper's table, and what octets read as.
-use Rattle.std.specs.Prelude.{ℕ, ◌+◌, ◌*◌, ◌%◌, cond, List, [], ◌∷◌, length, get_or, eqb}
+use Rattle.std.specs.Prelude.{ℕ, ◌+◌, ◌*◌, ◌%◌, cond, List, [], ◌∷◌, length, get_or, eqb, Option, Some, None}
 use Rattle.wire_messages.specs.declared.management.Message.{Message}
 use Rattle.wire_messages.specs.declared.management.Message.TheVariants.{COO, COA, CBD, CBA, ECO, ECA, TFP, TFA, RST}
-use Rattle.wire_messages.specs.declared.management.MessageRead.{MessageRead}
-use Rattle.wire_messages.specs.declared.management.MessageRead.TheVariants.{Read, Malformed}
 
 -- the column "Heading octet" (R31, R32, R33, R34, R35)
 abbrev pub heading_of : Message → ℕ
@@ -61,19 +59,19 @@ nine low high =
     COO fsn ∷ COA fsn ∷ CBD low ∷ CBA low ∷ ECO ∷ ECA ∷ TFP destination ∷ TFA destination ∷ RST destination ∷ []
 
 -- the one of some messages that has the heading
-abbrev pub headed : ℕ → List Message → MessageRead
-headed heading [] = Malformed
-headed heading (message ∷ rest) = cond (eqb heading (heading_of message)) (Read message) (headed heading rest)
+abbrev pub headed : ℕ → List Message → Option Message
+headed heading [] = None
+headed heading (message ∷ rest) = cond (eqb heading (heading_of message)) (Some message) (headed heading rest)
 
 -- the message of the table that has the heading
-abbrev pub listed : ℕ → ℕ → ℕ → MessageRead
+abbrev pub listed : ℕ → ℕ → ℕ → Option Message
 listed heading low high = headed heading (nine low high)
 
 -- "Totals are exact." (R38)
-abbrev pub exactly : ℕ → MessageRead → MessageRead
-exactly total (Read message) = cond (eqb total (total_of message)) (Read message) Malformed
-exactly total Malformed = Malformed
+abbrev pub exactly : ℕ → Option Message → Option Message
+exactly total (Some message) = cond (eqb total (total_of message)) (Some message) None
+exactly total None = None
 
 -- malformed is "a heading not listed or a wrong total" (R66); an octet that isn't there counts as 0
-abbrev pub read_message : List ℕ → MessageRead
+abbrev pub read_message : List ℕ → Option Message
 read_message octets = exactly (length octets) (listed (get_or octets 5 0) (get_or octets 6 0) (get_or octets 7 0))

@@ -19,86 +19,69 @@ pub enum Message {
     RST(u16),
 }
 
-#[derive(Clone, Copy)]
-pub enum MessageRead {
-    Read(Message),
-    // A heading that isn't listed, or a wrong total.
-    Malformed,
-}
+impl Message {
+    // How many octets it has, SIO and label among them.
+    pub fn total(self) -> usize
+        ensures { result ≡ Management.total_of self }
+    {
+        match self {
+            Message::ECO | Message::ECA => 6,
+            Message::COO(_) | Message::COA(_) | Message::CBD(_) | Message::CBA(_) => 7,
+            Message::TFP(_) | Message::TFA(_) | Message::RST(_) => 8,
+        }
+    }
 
-// How many octets a message has, SIO and label among them.
-pub fn total(message: Message) -> usize
-    ensures { result ≡ Management.total_of message }
-{
-    match message {
-        Message::COO(_) => 7,
-        Message::COA(_) => 7,
-        Message::CBD(_) => 7,
-        Message::CBA(_) => 7,
-        Message::ECO => 6,
-        Message::ECA => 6,
-        Message::TFP(_) => 8,
-        Message::TFA(_) => 8,
-        Message::RST(_) => 8,
+    // Its heading octet.
+    pub fn heading(self) -> u8
+        ensures { result ≡ Management.heading_of self }
+    {
+        match self {
+            Message::COO(_) => 0x11,
+            Message::COA(_) => 0x21,
+            Message::CBD(_) => 0x51,
+            Message::CBA(_) => 0x61,
+            Message::ECO => 0x12,
+            Message::ECA => 0x22,
+            Message::TFP(_) => 0x14,
+            Message::TFA(_) => 0x54,
+            Message::RST(_) => 0x15,
+        }
+    }
+
+    // What stands after the heading; nothing counts as 0.
+    pub fn field(self) -> u16
+        ensures { result ≡ Management.field_of self }
+    {
+        match self {
+            Message::COO(octet) | Message::COA(octet) | Message::CBD(octet) | Message::CBA(octet) =>
+                octet as u16,
+            Message::ECO | Message::ECA => 0,
+            Message::TFP(destination) | Message::TFA(destination) | Message::RST(destination) =>
+                destination,
+        }
     }
 }
 
-// The heading octet of a message.
-pub fn heading(message: Message) -> u8
-    ensures { result ≡ Management.heading_of message }
-{
-    match message {
-        Message::COO(_) => 0x11,
-        Message::COA(_) => 0x21,
-        Message::CBD(_) => 0x51,
-        Message::CBA(_) => 0x61,
-        Message::ECO => 0x12,
-        Message::ECA => 0x22,
-        Message::TFP(_) => 0x14,
-        Message::TFA(_) => 0x54,
-        Message::RST(_) => 0x15,
-    }
-}
-
-// What stands after the heading; nothing counts as 0.
-pub fn field(message: Message) -> u16
-    ensures { result ≡ Management.field_of message }
-{
-    match message {
-        Message::COO(fsn) => fsn as u16,
-        Message::COA(fsn) => fsn as u16,
-        Message::CBD(code) => code as u16,
-        Message::CBA(code) => code as u16,
-        Message::ECO => 0,
-        Message::ECA => 0,
-        Message::TFP(destination) => destination,
-        Message::TFA(destination) => destination,
-        Message::RST(destination) => destination,
-    }
-}
-
-// The management message that the octets, SIO and label among them, are.
-pub fn read_message(octets: &[u8]) -> MessageRead
+// The management message that the octets, SIO and label among them, are; none of a heading that isn't listed or a wrong total.
+pub fn read_message(octets: &[u8]) -> Option<Message>
     ensures { result ≡ Management.read_message octets.now }
 {
     let low = octet(octets, 6);
     let high = octet(octets, 7);
-    let MessageRead::Read(message) = listed(octet(octets, 5), low, high) else {
-        return MessageRead::Malformed;
-    };
-    if octets.len() == total(message) {
-        MessageRead::Read(message)
+    let message = listed(octet(octets, 5), low, high)?;
+    if octets.len() == message.total() {
+        Some(message)
     } else {
-        MessageRead::Malformed
+        None
     }
 }
 
-// The message listed under a heading, with what the two octets behind it say.
-pub fn listed(heading: u8, low: u8, high: u8) -> MessageRead
+// The message listed under a heading, if one is, with what the two octets behind it say.
+pub fn listed(heading: u8, low: u8, high: u8) -> Option<Message>
     ensures { result ≡ Management.listed heading low high }
 {
     let fsn = low % 128;
-    let destination = ((low as u16) + 256 * (high as u16)) % 16384;
+    let destination = u16::from_le_bytes([low, high]) % 16384;
     let message = match heading {
         0x11 => Message::COO(fsn),
         0x21 => Message::COA(fsn),
@@ -109,16 +92,14 @@ pub fn listed(heading: u8, low: u8, high: u8) -> MessageRead
         0x14 => Message::TFP(destination),
         0x54 => Message::TFA(destination),
         0x15 => Message::RST(destination),
-        _ => {
-            return MessageRead::Malformed;
-        }
+        _ => return None,
     };
-    MessageRead::Read(message)
+    Some(message)
 }
 
 // The octet at a place, 0 past the end.
 fn octet(octets: &[u8], at: usize) -> u8
     ensures { result ≡ get_or octets.now at 0 }
 {
-    if at < octets.len() { octets[at] } else { 0 }
+    octets.get(at).copied().unwrap_or(0)
 }

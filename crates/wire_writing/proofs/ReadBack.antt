@@ -7,10 +7,9 @@ use lib.ListN.{length}
 use borrow.Author.Tests.{le-leb}
 use Rattle.wire.specs.declared.header.Label.{Label}
 use Rattle.wire.specs.declared.header.Header.{Header}
-use Rattle.wire.specs.declared.header.HeaderRead.TheVariants.{Read as Header-as-Read}
+use Rattle.std.specs.Prelude.{Some}
 use Rattle.wire_messages.specs.declared.management.Message.{Message}
 use Rattle.wire_messages.specs.declared.management.Message.TheVariants.{COO, COA, CBD, CBA, ECO, ECA, TFP, TFA, RST}
-use Rattle.wire_messages.specs.declared.management.MessageRead.TheVariants.{Read}
 use Rattle.wire.specs.Header.{sio_of, si_of, ni_of, label_word, label_of, read_header, InRange}
 use Rattle.wire_writing.specs.Writing.{octets_of, FieldInRange}
 use Rattle.wire_messages.specs.Management.{read_message}
@@ -33,26 +32,26 @@ destination_back : (destination : ℕ) → destination < 16384 → (destination 
 destination_back destination h = omega arith
 
 -- what is written of a message in range reads back as that message
-pub message_back : (ni : ℕ) (label : Label) (message : Message) → FieldInRange message → read_message (octets_of ni label message) ≡ Read message
-message_back ni label (COO fsn) h = ap (λ (x : ℕ). Read (COO x)) (fsn_back fsn h)
-message_back ni label (COA fsn) h = ap (λ (x : ℕ). Read (COA x)) (fsn_back fsn h)
-message_back ni label (CBD code) h = ap (λ (x : ℕ). Read (CBD x)) (code_back code h)
-message_back ni label (CBA code) h = ap (λ (x : ℕ). Read (CBA x)) (code_back code h)
+pub message_back : (ni : ℕ) (label : Label) (message : Message) → FieldInRange message → read_message (octets_of ni label message) ≡ Some message
+message_back ni label (COO fsn) h = ap (λ (x : ℕ). Some (COO x)) (fsn_back fsn h)
+message_back ni label (COA fsn) h = ap (λ (x : ℕ). Some (COA x)) (fsn_back fsn h)
+message_back ni label (CBD code) h = ap (λ (x : ℕ). Some (CBD x)) (code_back code h)
+message_back ni label (CBA code) h = ap (λ (x : ℕ). Some (CBA x)) (code_back code h)
 message_back ni label ECO h = refl
 message_back ni label ECA h = refl
-message_back ni label (TFP destination) h = ap (λ (x : ℕ). Read (TFP x)) (destination_back destination h)
-message_back ni label (TFA destination) h = ap (λ (x : ℕ). Read (TFA x)) (destination_back destination h)
-message_back ni label (RST destination) h = ap (λ (x : ℕ). Read (RST x)) (destination_back destination h)
+message_back ni label (TFP destination) h = ap (λ (x : ℕ). Some (TFP x)) (destination_back destination h)
+message_back ni label (TFA destination) h = ap (λ (x : ℕ). Some (TFA x)) (destination_back destination h)
+message_back ni label (RST destination) h = ap (λ (x : ℕ). Some (RST x)) (destination_back destination h)
 
 -- and its SIO and label as SI 0, that NI and that label
-pub header_back : (ni : ℕ) (label : Label) (message : Message) → ni < 4 → InRange label → read_header (octets_of ni label message) ≡ Header-as-Read (record { si = 0; ni = ni; label = label })
+pub header_back : (ni : ℕ) (label : Label) (message : Message) → ni < 4 → InRange label → read_header (octets_of ni label message) ≡ Some (record { si = 0; ni = ni; label = label })
 header_back ni label message h range =
     let total = (eight ni label message).total in
     let least : 5 ≤ length (octets_of ni label message) = omega arith in
     let most : length (octets_of ni label message) ≤ 273 = omega (arith, (eight ni label message).most) in
     let word = from_low_first 4 (label_word label) (word_below label) in
     simp (le-leb _ _ least, le-leb _ _ most)
-    (λ i. Header-as-Read (record { si = si_back ni i; ni = ni_back ni h i; label = (ap label_of word ∙ label_back label range) i }))
+    (λ i. Some (record { si = si_back ni i; ni = ni_back ni h i; label = (ap label_of word ∙ label_back label range) i }))
 
 -- two messages in range with the same octets are one: NI, label and message
 pub record Same (ni ni' : ℕ) (label label' : Label) (message message' : Message) : Type 0 where

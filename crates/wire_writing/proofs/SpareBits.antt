@@ -11,8 +11,7 @@ use lib.ListN.{length, get_or, take, drop, length-drop}
 use lib.Seq.{length-take-le, take_all, take-suc, get_or-drop}
 use borrow.Author.Tests.{eqb-true}
 use Rattle.wire_messages.specs.declared.management.Message.{Message}
-use Rattle.wire_messages.specs.declared.management.MessageRead.{MessageRead}
-use Rattle.wire_messages.specs.declared.management.MessageRead.TheVariants.{Read, Malformed}
+use Rattle.std.specs.Prelude.{Option, Some, None}
 use Rattle.wire.specs.Header.{si_of, ni_of, low_first, from_low, label_word, header_of, Octets}
 use Rattle.wire_writing.specs.Writing.{octets_of, FieldInRange, OnlySpare}
 use Rattle.wire_messages.specs.Management.{heading_of, total_of, field_of, values_of, nine, headed, listed, exactly, read_message}
@@ -22,15 +21,15 @@ use Rattle.wire_writing.proofs.ReadBack.{si_back, ni_back}
 use Rattle.wire_writing.proofs.Written.{Eight, eight, values_some}
 
 -- a total that is right leaves what is listed
-exact : (total : ℕ) (listed : MessageRead) (message : Message) → exactly total listed ≡ Read message → (listed ≡ Read message) × (total ≡ total_of message)
-exact total (Read listed) message e = go (eqb total (total_of listed)) refl e
+exact : (total : ℕ) (listed : Option Message) (message : Message) → exactly total listed ≡ Some message → (listed ≡ Some message) × (total ≡ total_of message)
+exact total (Some listed) message e = go (eqb total (total_of listed)) refl e
   where
-    go : (t : Bool) → eqb total (total_of listed) ≡ t → cond t (Read listed) Malformed ≡ Read message → (Read listed ≡ Read message) × (total ≡ total_of message)
+    go : (t : Bool) → eqb total (total_of listed) ≡ t → cond t (Some listed) None ≡ Some message → (Some listed ≡ Some message) × (total ≡ total_of message)
     go true same e =
         let one : listed ≡ message = cc in
         (e, eqb-true _ _ same ∙ ap total_of one)
     go false same e = let never : ◌≡◌ {A = ℕ} 0 1 = cc in absurd (omega arith)
-exact total Malformed message e = let never : ◌≡◌ {A = ℕ} 0 1 = cc in absurd (omega arith)
+exact total None message e = let never : ◌≡◌ {A = ℕ} 0 1 = cc in absurd (omega arith)
 
 -- something holds of each of some messages
 data Each (P : Message → Type 0) : List Message → Type 0 where
@@ -38,11 +37,11 @@ data Each (P : Message → Type 0) : List Message → Type 0 where
   more : {message : Message} {rest : List Message} → P message → Each P rest → Each P (message ∷ rest)
 
 -- what holds of each holds of the one that has the heading
-found : (P : Message → Type 0) (heading : ℕ) (messages : List Message) (message : Message) → Each P messages → headed heading messages ≡ Read message → (heading ≡ heading_of message) × P message
+found : (P : Message → Type 0) (heading : ℕ) (messages : List Message) (message : Message) → Each P messages → headed heading messages ≡ Some message → (heading ≡ heading_of message) × P message
 found P heading [] message all e = let never : ◌≡◌ {A = ℕ} 0 1 = cc in absurd (omega arith)
 found P heading (first ∷ rest) message (more p all) e = go (eqb heading (heading_of first)) refl (found P heading rest message all) e
   where
-    go : (t : Bool) → eqb heading (heading_of first) ≡ t → (headed heading rest ≡ Read message → (heading ≡ heading_of message) × P message) → cond t (Read first) (headed heading rest) ≡ Read message → (heading ≡ heading_of message) × P message
+    go : (t : Bool) → eqb heading (heading_of first) ≡ t → (headed heading rest ≡ Some message → (heading ≡ heading_of message) × P message) → cond t (Some first) (headed heading rest) ≡ Some message → (heading ≡ heading_of message) × P message
     go true same later e =
         let one : first ≡ message = cc in
         (eqb-true _ _ same ∙ ap heading_of one, subst P one p)
@@ -67,7 +66,7 @@ two_places s (suc (suc zero)) h = refl
 two_places s (suc (suc (suc n))) h = absurd (omega arith)
 
 -- what reads as a message differs from its written form only in spare bits
-module _ (s : List ℕ) (message : Message) (octets : Octets s) (read : read_message s ≡ Read message) where
+module _ (s : List ℕ) (message : Message) (octets : Octets s) (read : read_message s ≡ Some message) where
   total : length s ≡ total_of message
   total = (exact (length s) (listed (get_or s 5 0) (get_or s 6 0) (get_or s 7 0)) message read).1
 

@@ -7,7 +7,7 @@ ghost use Rattle.wire_messages.specs.Management as Management;
 ghost use Rattle.wire_writing.specs.Writing as Writing;
 
 use wire::header::Label;
-use wire_messages::management::{Message, field, heading, total};
+use wire_messages::management::Message;
 
 // Writes the message, SI 0, at the start of the output and answers how many octets it has; 0 for an output under 273 octets.
 #[tactic(auto, using(crate::proofs::Written::eight))]
@@ -19,7 +19,7 @@ pub fn write_message(ni: u8, label: Label, message: Message, out: &mut [u8]) -> 
         return 0;
     }
     let octets = spell(ni, label, message);
-    let total = total(message);
+    let total = message.total();
     out[..total].copy_from_slice(&octets[..total]);
     total
 }
@@ -29,18 +29,9 @@ pub fn write_message(ni: u8, label: Label, message: Message, out: &mut [u8]) -> 
 fn spell(ni: u8, label: Label, message: Message) -> [u8; 8]
     ensures { result ≡ Writing.eight_of ni label message }
 {
-    let word = label_word(label);
-    let field = field(message) % values(message);
-    [
-        64 * (ni % 4),
-        (word % 256) as u8,
-        (word / 256 % 256) as u8,
-        (word / 256 / 256 % 256) as u8,
-        (word / 256 / 256 / 256 % 256) as u8,
-        heading(message),
-        (field % 256) as u8,
-        (field / 256 % 256) as u8,
-    ]
+    let [a, b, c, d] = label_word(label).to_le_bytes();
+    let [low, high] = (message.field() % values(message)).to_le_bytes();
+    [64 * (ni % 4), a, b, c, d, message.heading(), low, high]
 }
 
 // The 32 bits of a label.
@@ -57,14 +48,9 @@ fn values(message: Message) -> u16
     ensures { result ≡ Management.values_of message }
 {
     match message {
-        Message::COO(_) => 128,
-        Message::COA(_) => 128,
-        Message::CBD(_) => 256,
-        Message::CBA(_) => 256,
-        Message::ECO => 1,
-        Message::ECA => 1,
-        Message::TFP(_) => 16384,
-        Message::TFA(_) => 16384,
-        Message::RST(_) => 16384,
+        Message::COO(_) | Message::COA(_) => 128,
+        Message::CBD(_) | Message::CBA(_) => 256,
+        Message::ECO | Message::ECA => 1,
+        Message::TFP(_) | Message::TFA(_) | Message::RST(_) => 16384,
     }
 }
