@@ -8,8 +8,7 @@ use lib.Dec.{eqb, ltb}
 use lib.ListN.{length, get_or}
 use borrow.Table.Steps.{cases}
 use Rattle.text.specs.Part.{split, is_empty, lf, tab}
-use Rattle.text_decimals.specs.declared.decimal.Number.{Number}
-use Rattle.text_decimals.specs.declared.decimal.Number.TheVariants.{Value, Wrong}
+use Rattle.std.specs.Prelude.{Option, Some, None}
 use Rattle.text_fields.specs.Fields.{number}
 use Rattle.plan.specs.declared.data.Plan.{Plan}
 use Rattle.plan.specs.Data.{empty_plan}
@@ -30,12 +29,12 @@ module _ (P : Added → Type 0) (plan : Plan) (refuses : (fault : ℕ) → 0 < f
   by_test true a b p q = p
   by_test false a b p q = q refl
 
-  by_numbers : (word : Word) → (is_node word ≡ false → plan.given ≡ true) → (x y z : Number)
+  by_numbers : (word : Word) → (is_node word ≡ false → plan.given ≡ true) → (x y z : Option ℕ)
       → P (add_said plan (with_number x (λ a. with_number y (λ b. with_number z (λ c. Says (record { word = word; first = a; second = b; third = c }))))))
-  by_numbers word has Wrong y z = refuses 21 (omega arith)
-  by_numbers word has (Value a) Wrong z = refuses 21 (omega arith)
-  by_numbers word has (Value a) (Value b) Wrong = refuses 21 (omega arith)
-  by_numbers word has (Value a) (Value b) (Value c) = adds word has a b c
+  by_numbers word has None y z = refuses 21 (omega arith)
+  by_numbers word has (Some a) None z = refuses 21 (omega arith)
+  by_numbers word has (Some a) (Some b) None = refuses 21 (omega arith)
+  by_numbers word has (Some a) (Some b) (Some c) = adds word has a b c
 
   by_count : (fits : Bool) (said : Said) → P (add_said plan said) → P (add_said plan (cond fits said (Faulty 20)))
   by_count true said p = p

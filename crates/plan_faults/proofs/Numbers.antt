@@ -7,8 +7,7 @@ use native.Mathlib.Omega.{arith}
 use lib.Dec.{leb, ltb}
 use borrow.Author.Tests.{le-leb, lt-leb, lt-ltb, le-ltb, leb-false}
 use Rattle.text_decimals.specs.Decimal.{is_plain, all_digits, value_on}
-use Rattle.text_decimals.specs.declared.decimal.Number.{Number}
-use Rattle.text_decimals.specs.declared.decimal.Number.TheVariants.{Value, Wrong}
+use Rattle.std.specs.Prelude.{Option, Some, None}
 use Rattle.text_fields.specs.Fields.{number}
 use Rattle.plan.specs.declared.data.Plan.{Plan}
 use Rattle.plan.proofs.Split.{split}
@@ -20,9 +19,9 @@ use Rattle.plan_configuration.specs.Configure.{add_by, add_said}
 use Rattle.plan_faults.specs.Faults.{value, is_out}
 
 -- what is read of a field: no number, which is out of every range, or one that is out of a range if it is above its top
-pub data Read (top : ℕ) : Number → ℕ → Bool → Type 0 where
-  no_number : (n : ℕ) → Read top Wrong n true
-  a_number : (n : ℕ) → Read top (Value n) n (ltb top n)
+pub data Read (top : ℕ) : Option ℕ → ℕ → Bool → Type 0 where
+  no_number : (n : ℕ) → Read top None n true
+  a_number : (n : ℕ) → Read top (Some n) n (ltb top n)
 
 above : (n top : ℕ) → not (leb n top) ≡ ltb top n
 above n top =
@@ -31,11 +30,11 @@ above n top =
     (λ more. ap not (le-leb n top more) ∙ sym (le-ltb top n more))
 
 read_by : (top most n : ℕ) (plain small : Bool) → top ≤ most → leb n most ≡ small
-    → Read top (cond (plain && small) (Value n) Wrong) n (not (plain && leb n top))
+    → Read top (cond (plain && small) (Some n) None) n (not (plain && leb n top))
 read_by top most n false small h e = no_number n
-read_by top most n true true h e = subst (Read top (Value n) n) (sym (above n top)) (a_number n)
+read_by top most n true true h e = subst (Read top (Some n) n) (sym (above n top)) (a_number n)
 read_by top most n true false h e =
-    subst (Read top Wrong n) (ap not (sym (lt-leb n top (omega (arith, leb-false n most e))))) (no_number n)
+    subst (Read top None n) (ap not (sym (lt-leb n top (omega (arith, leb-false n most e))))) (no_number n)
 
 pub read : (digits : List ℕ) (top : ℕ) → top ≤ 18446744073709551615 → Read top (number digits) (value digits) (is_out digits top)
 read digits top h = read_by top 18446744073709551615 (value digits) (is_plain digits) (leb (value digits) 18446744073709551615) h refl
@@ -54,7 +53,7 @@ third n false b later = second n b later
 -- the fault of a line by its three numbers, where it is known for every three of them
 module _ (plan : Plan) (word : Word) (top₁ top₂ top₃ : ℕ) (rest : ℕ → ℕ → ℕ → List Row)
     (known : (a b c : ℕ) → (add_by word plan a b c).fault ≡ first (row 21 (ltb top₁ a) ∷ row 21 (ltb top₂ b) ∷ row 21 (ltb top₃ c) ∷ rest a b c)) where
-  by_read : {x y z : Number} {out₁ out₂ : Bool} (a b c : ℕ) (out₃ : Bool) → Read top₁ x a out₁ → Read top₂ y b out₂ → Read top₃ z c out₃
+  by_read : {x y z : Option ℕ} {out₁ out₂ : Bool} (a b c : ℕ) (out₃ : Bool) → Read top₁ x a out₁ → Read top₂ y b out₂ → Read top₃ z c out₃
       → (add_said plan (with_number x (λ a. with_number y (λ b. with_number z (λ c. Says (record { word = word; first = a; second = b; third = c })))))).fault
       ≡ first (row 21 out₁ ∷ row 21 out₂ ∷ row 21 out₃ ∷ rest a b c)
   unfolding first
@@ -69,20 +68,20 @@ module _ (plan : Plan) (word : Word) (top₁ top₂ top₃ : ℕ) (rest : ℕ �
   numbers_fault h₁ h₂ h₃ a b c = by_read (value a) (value b) (value c) (is_out c top₃) (read a top₁ h₁) (read b top₂ h₂) (read c top₃ h₃)
 
 -- the same of a line of two numbers, where the third is 0
-zero_read : number (48 ∷ []) ≡ Value 0
+zero_read : number (48 ∷ []) ≡ Some 0
 unfolding all_digits value_on
 zero_read = refl
 
 module _ (plan : Plan) (word : Word) (top₁ top₂ : ℕ) (rest : ℕ → ℕ → List Row)
     (known : (a b : ℕ) → (add_by word plan a b 0).fault ≡ first (row 21 (ltb top₁ a) ∷ row 21 (ltb top₂ b) ∷ rest a b)) where
-  by_read_two : {x y : Number} {out₁ : Bool} (z : Number) (a b : ℕ) (out₂ : Bool) → z ≡ Value 0 → Read top₁ x a out₁ → Read top₂ y b out₂
+  by_read_two : {x y : Option ℕ} {out₁ : Bool} (z : Option ℕ) (a b : ℕ) (out₂ : Bool) → z ≡ Some 0 → Read top₁ x a out₁ → Read top₂ y b out₂
       → (add_said plan (with_number x (λ a. with_number y (λ b. with_number z (λ c. Says (record { word = word; first = a; second = b; third = c })))))).fault
       ≡ first (row 21 out₁ ∷ row 21 out₂ ∷ rest a b)
   unfolding first
   by_read_two z a b out₂ e (no_number _) _ = refl
   by_read_two z a b out₂ e (a_number _) (no_number _) = second 21 (ltb top₁ a) (rest a b)
   by_read_two z a b out₂ e (a_number _) (a_number _) =
-      ap (λ (z : Number). (add_said plan (with_number z (λ c. Says (record { word = word; first = a; second = b; third = c })))).fault) e
+      ap (λ (z : Option ℕ). (add_said plan (with_number z (λ c. Says (record { word = word; first = a; second = b; third = c })))).fault) e
       ∙ known a b
 
   pub two_numbers_fault : top₁ ≤ 18446744073709551615 → top₂ ≤ 18446744073709551615 → (a b : List ℕ)

@@ -1,19 +1,17 @@
 -- What a line says: "`node code ni`; `set number adjacent`; `link number set slc`; `route destination set rank`" (R161), and its fault 20 or
 -- 21. Whether the numbers are in range is asked where they are put into the plan.
-use Rattle.std.specs.Prelude.{ℕ, cond, List, [], ◌∷◌, length, get_or, eqb}
+use Rattle.std.specs.Prelude.{ℕ, cond, List, [], ◌∷◌, Option, Some, None, length, get_or, eqb}
 use Rattle.text.specs.Part.{split, tab}
 use Rattle.text_fields.specs.Fields.{number}
-use Rattle.text_decimals.specs.declared.decimal.Number.{Number}
-use Rattle.text_decimals.specs.declared.decimal.Number.TheVariants.{Value, Wrong}
 use Rattle.plan_keywords.specs.declared.Word.{Word}
 use Rattle.plan_keywords.specs.StatementWords.{word_of, fields_of}
 use Rattle.plan_statement.specs.declared.Said.{Said}
 use Rattle.plan_statement.specs.declared.Said.TheVariants.{Says, Faulty}
 
 -- "21 not a plain decimal (no leading zero)" (R167), of at most 64 bits: a longer one is out of every range
-abbrev pub with_number : Number → (ℕ → Said) → Said
-with_number (Value n) says = says n
-with_number Wrong says = Faulty 21
+abbrev pub with_number : Option ℕ → (ℕ → Said) → Said
+with_number (Some n) says = says n
+with_number None says = Faulty 21
 
 -- a word and its numbers
 abbrev pub says : Word → List ℕ → List ℕ → List ℕ → Said

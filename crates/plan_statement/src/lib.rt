@@ -7,7 +7,7 @@ ghost use Rattle.plan_statement.specs.Statement as Statement·;
 
 use plan_keywords::{Word, fields, read_word};
 use text::part::between;
-use text_decimals::decimal::{Number, decimal};
+use text_decimals::decimal::decimal;
 use text_fields::first_four;
 
 // A line's word and its numbers, whatever their range; a third that the word doesn't take is 0.
@@ -53,13 +53,13 @@ fn says_counted(count: u8, word: Word, first: &[u8], second: &[u8], third: &[u8]
 fn says(word: Word, first: &[u8], second: &[u8], third: &[u8]) -> Said
     ensures { result ≡ Statement·.says word first.now second.now third.now }
 {
-    let Number::Value(first) = decimal(first, u64::MAX) else {
+    let Some(first) = decimal(first, u64::MAX) else {
         return Said::Faulty(21);
     };
-    let Number::Value(second) = decimal(second, u64::MAX) else {
+    let Some(second) = decimal(second, u64::MAX) else {
         return Said::Faulty(21);
     };
-    let Number::Value(third) = decimal(third, u64::MAX) else {
+    let Some(third) = decimal(third, u64::MAX) else {
         return Said::Faulty(21);
     };
     Said::Says(Statement {

@@ -10,7 +10,7 @@ use route_ways::for_users;
 use std::io;
 use std::io::Read;
 use std::rt::Env;
-use text_decimals::decimal::{Number, decimal};
+use text_decimals::decimal::decimal;
 
 fn main(rt: HostRuntime) -> io::Result<()> {
     let count = number(&rt, 2, 1000000000);
@@ -77,8 +77,5 @@ fn all_but(out: u64) -> [u32; 256] {
 fn number(rt: &impl Env, argument: usize, top: u64) -> u64 {
     let mut word = [0u8; 4096];
     let length = rt.arg(argument, &mut word).unwrap_or(0);
-    match decimal(&word[..length], top) {
-        Number::Value(n) => n,
-        Number::Wrong => 0,
-    }
+    decimal(&word[..length], top).unwrap_or(0)
 }

@@ -2,8 +2,8 @@
 use std::fs::File;
 use std::num::wrapping_add_usize;
 use text::part::{between, field, line, same};
-use text_decimals::decimal::{Number, decimal};
-use text_hex::hex::{Octets, hex};
+use text_decimals::decimal::decimal;
+use text_hex::hex::hex;
 use tool_files::writer::{Writer, add, flush};
 use tool_words::lines::{Entry, entry_of, past_two, value};
 
@@ -82,7 +82,7 @@ fn take_answer(
     if !same(between(answer, number.next, word.end), b"reply") {
         return captured;
     }
-    let Number::Value(told) = decimal(between(answer, 0, number.end), u64::MAX) else {
+    let Some(told) = decimal(between(answer, 0, number.end), u64::MAX) else {
         return captured;
     };
     let entry = entry_of(lines, captured.entry, told);
@@ -153,7 +153,7 @@ fn add_packet(
 ) -> Writer<File> {
     let fsn = field(message, 0, message.len());
     let mut octets = [0u8; 1024];
-    let Octets::Count(count) = hex(between(message, fsn.next, message.len()), &mut octets) else {
+    let Some(count) = hex(between(message, fsn.next, message.len()), &mut octets) else {
         return packets;
     };
     if count == 0 {

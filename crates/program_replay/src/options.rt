@@ -1,6 +1,6 @@
 // What the arguments ask for.
 use text::part::{between, same};
-use text_decimals::decimal::{Number, decimal};
+use text_decimals::decimal::decimal;
 use tool_files::arguments;
 use tool_files::arguments::{Arguments, NO_LINE, Word, ends, next_word, settled, unread, word_at};
 
@@ -124,7 +124,7 @@ fn with_value(rt: &HostRuntime, options: Options, word: Word) -> Options {
 // `--from`, `--to` or `--link-type`, whose value is a number.
 fn with_number(options: Options, option: u64, value: &[u8], place: usize) -> Options {
     let mut next = options;
-    let Number::Value(number) = decimal(value, u64::MAX) else {
+    let Some(number) = decimal(value, u64::MAX) else {
         return wrong(options, no_number(option), place);
     };
     match option {

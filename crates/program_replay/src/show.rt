@@ -2,7 +2,7 @@
 use crate::words::add_words;
 use std::rt::Stdout;
 use text::part::{between, field, line, same};
-use text_decimals::decimal::{Number, decimal};
+use text_decimals::decimal::decimal;
 use tool_files::writer::{Writer, add, flush, write};
 use tool_words::lines::{Entry, entry_of};
 
@@ -79,7 +79,7 @@ fn show_line(
 
 // The line of the record that has a number.
 fn show_call(shown: Shown, area: &mut [u8; 65536], lines: &[u8], number: &[u8]) -> Shown {
-    let Number::Value(told) = decimal(number, u64::MAX) else {
+    let Some(told) = decimal(number, u64::MAX) else {
         return shown;
     };
     let entry = entry_of(lines, shown.entry, told);

@@ -1,6 +1,6 @@
 // What the arguments ask for.
 use text::part::between;
-use text_decimals::decimal::{Number, decimal};
+use text_decimals::decimal::decimal;
 use tool_files::arguments;
 use tool_files::arguments::{Arguments, NO_LINE, Word, complete, ends, next_word, unread, word_at};
 use trace_books::asked::{ANY, Asked};
@@ -97,7 +97,7 @@ fn with_value(rt: &HostRuntime, options: Options, word: Word) -> Options {
     }
     let mut area = [0u8; 4096];
     let length = word_at(rt, word.value, &mut area);
-    let Number::Value(number) = decimal(between(&area, 0, length), top_of(word.option)) else {
+    let Some(number) = decimal(between(&area, 0, length), top_of(word.option)) else {
         return wrong(options, fault_of(word.option), word.value);
     };
     next.asked = with_number(options.asked, word.option, number);

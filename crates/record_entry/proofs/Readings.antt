@@ -8,22 +8,20 @@ use lib.Dec.{ltb, lit≤}
 use lib.ListN.{get_or}
 use borrow.Author.Tests.{eq-eqb, ne_eqb}
 use Rattle.text_hex.specs.Hex.{count_of, filled}
-use Rattle.text_decimals.specs.declared.decimal.Number.{Number}
-use Rattle.text_hex.specs.declared.hex.Octets.{Octets}
 use Rattle.text_fields.proofs.Listed.{ByFour}
 use Rattle.record_kinds.specs.declared.Kind.{Kind}
 use Rattle.record_kinds.specs.declared.Form.{Form}
-use Rattle.record_kinds.specs.declared.Form.TheVariants.{Bare, OneNumber, TwoNumbers, Message, TwoNumbersAndMessage, Unknown}
+use Rattle.record_kinds.specs.declared.Form.TheVariants.{Bare, OneNumber, TwoNumbers, Message, TwoNumbersAndMessage}
 use Rattle.record_kinds.specs.Kind.{form_of, fields_of}
 use Rattle.record_words.specs.KindWords.{kind_of}
-use Rattle.record_entry.specs.declared.Entry.{Entry}
-use Rattle.record_entry.specs.declared.Entry.TheVariants.{Unreadable}
+use Rattle.record_entry.specs.declared.Said.{Said}
+use Rattle.std.specs.Prelude.{Option, Some, None}
 use Rattle.record_entry.specs.Entry.{number_in, octets_in, says_by, kept_with, read_by, kept_by, read_as, kept_as, kind_in}
 
 -- what two numbers and octets say, read as the kind's form has them
 pub by_form :
     (area : List ℕ) (kind : Kind) (one two three : List ℕ) (form : Form) → form ≡ form_of kind →
-    (first second : Number) (field : List ℕ) (octets : Octets) (after : List ℕ) →
+    (first second : Option ℕ) (field : List ℕ) (octets : Option ℕ) (after : List ℕ) →
     first ≡ number_in form 0 one → second ≡ number_in form 1 two → field ≡ octets_in form one three →
     octets ≡ count_of field area → after ≡ filled field area →
     (says_by kind first second octets ≡ read_by area kind one two three) × (kept_with first second after area ≡ kept_by area kind one two three)
@@ -42,7 +40,6 @@ within OneNumber = lit≤ tt
 within TwoNumbers = lit≤ tt
 within Message = lit≤ tt
 within TwoNumbersAndMessage = lit≤ tt
-within Unknown = lit≤ tt
 
 -- the fields that a form's numbers and octets stand in are among those that its line has
 record Has (form : Form) (one two three : List ℕ) : Type 0 where
@@ -56,7 +53,13 @@ has OneNumber one two three = search
 has TwoNumbers one two three = search
 has Message one two three = search
 has TwoNumbersAndMessage one two three = search
-has Unknown one two three = search
+
+-- a line whose first field is no kind's word can't be read
+pub unnamed : (area : List ℕ) (all : List (List ℕ)) (field : List ℕ) → field ≡ get_or all 0 [] → None ≡ kind_of field
+    → (None ≡ read_as (kind_in all) area all) × (area ≡ kept_as (kind_in all) area all)
+unnamed area all field cut named =
+    let other = named ∙ ap kind_of cut in
+    (ap (λ (k : Option Kind). read_as k area all) other, ap (λ (k : Option Kind). kept_as k area all) other)
 
 module _
     (area : List ℕ)
@@ -67,27 +70,27 @@ module _
     (field : List ℕ)
     (cut : field ≡ word)
     (kind : Kind)
-    (named : kind ≡ kind_of field)
+    (named : Some kind ≡ kind_of field)
   where
-    same_kind : kind ≡ kind_in all
+    same_kind : Some kind ≡ kind_in all
     same_kind = named ∙ ap kind_of (cut ∙ sym (four.first []))
 
     -- a line with another number of fields can't be read
     pub unfit :
         (count ≡ fields_of (form_of kind) → ⊥) →
-        (Unreadable ≡ read_as (kind_in all) area all) × (area ≡ kept_as (kind_in all) area all)
+        (None ≡ read_as (kind_in all) area all) × (area ≡ kept_as (kind_in all) area all)
     unfit h =
         let no = sym (four.counts _ (within (form_of kind)) ∙ ne_eqb count (fields_of (form_of kind)) h) in (
-          ap (λ (b : Bool). cond b (read_by area kind (get_or all 1 []) (get_or all 2 []) (get_or all 3 [])) Unreadable) no
-              ∙ ap (λ (k : Kind). read_as k area all) same_kind,
+          ap (λ (b : Bool). cond b (read_by area kind (get_or all 1 []) (get_or all 2 []) (get_or all 3 [])) None) no
+              ∙ ap (λ (k : Option Kind). read_as k area all) same_kind,
           ap (λ (b : Bool). cond b (kept_by area kind (get_or all 1 []) (get_or all 2 []) (get_or all 3 [])) area) no
-              ∙ ap (λ (k : Kind). kept_as k area all) same_kind,
+              ∙ ap (λ (k : Option Kind). kept_as k area all) same_kind,
         )
 
     -- one with the kind's number of fields says what is read of them
     pub fit :
         count ≡ fields_of (form_of kind) → (a b c : List ℕ) → a ≡ one → b ≡ two → c ≡ three →
-        (r : Entry) (after : List ℕ) → r ≡ read_by area kind a b c → after ≡ kept_by area kind a b c →
+        (r : Option Said) (after : List ℕ) → r ≡ read_by area kind a b c → after ≡ kept_by area kind a b c →
         (r ≡ read_as (kind_in all) area all) × (after ≡ kept_as (kind_in all) area all)
     fit h a b c e₁ e₂ e₃ r after reads keeps =
         let form = form_of kind in
@@ -104,11 +107,11 @@ module _
           reads
               ∙ (λ i. read_by area kind (e₁ i) (e₂ i) (e₃ i))
               ∙ same.0
-              ∙ ap (λ (b : Bool). cond b (read_by area kind (get_or all 1 []) (get_or all 2 []) (get_or all 3 [])) Unreadable) yes
-              ∙ ap (λ (k : Kind). read_as k area all) same_kind,
+              ∙ ap (λ (b : Bool). cond b (read_by area kind (get_or all 1 []) (get_or all 2 []) (get_or all 3 [])) None) yes
+              ∙ ap (λ (k : Option Kind). read_as k area all) same_kind,
           keeps
               ∙ (λ i. kept_by area kind (e₁ i) (e₂ i) (e₃ i))
               ∙ same.1
               ∙ ap (λ (b : Bool). cond b (kept_by area kind (get_or all 1 []) (get_or all 2 []) (get_or all 3 [])) area) yes
-              ∙ ap (λ (k : Kind). kept_as k area all) same_kind,
+              ∙ ap (λ (k : Option Kind). kept_as k area all) same_kind,
         )

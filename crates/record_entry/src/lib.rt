@@ -8,9 +8,9 @@ ghost use Rattle.record_entry.specs.Entry as Entry·;
 use record_kinds::{Form, Kind, fields_of, form_of};
 use record_words::read_kind;
 use text::part::between;
-use text_decimals::decimal::{Number, decimal};
+use text_decimals::decimal::decimal;
 use text_fields::first_four;
-use text_hex::hex::{Octets, hex};
+use text_hex::hex::hex;
 
 // A line's kind, its numbers, whatever their range, and how many octets it has; a number that the kind doesn't take is 0.
 #[derive(Clone, Copy)]
@@ -21,22 +21,16 @@ pub struct Said {
     pub octets: usize,
 }
 
-#[derive(Clone, Copy)]
-pub enum Entry {
-    Says(Said),
-    Unreadable,
-}
-
-// What the line between two places of a text says; its octets are put at the start of the lent area, which holds as many as a
-// field may have.
-pub fn read_entry(text: &[u8], at: usize, to: usize, message: &mut [u8]) -> Entry
+// What the line between two places of a text says; none where it can't be read. Its octets are put at the start of the lent area,
+// which holds as many as a field may have.
+pub fn read_entry(text: &[u8], at: usize, to: usize, message: &mut [u8]) -> Option<Said>
     ensures value { result ≡ Entry·.read_entry message.old (slice at to text.now) }
     ensures message_after { message.new ≡ Entry·.area_after message.old (slice at to text.now) }
 {
     let found = first_four(text, at, to);
-    let kind = read_kind(between(text, at, found.zero.end));
+    let kind = read_kind(between(text, at, found.zero.end))?;
     if found.count != fields_of(form_of(kind)) {
-        return Entry::Unreadable;
+        return None;
     }
     let one = between(text, found.zero.next, found.one.end);
     let two = between(text, found.one.next, found.two.end);
@@ -51,21 +45,15 @@ fn read_fields<'a>(
     two: &[u8],
     three: &'a [u8],
     message: &mut [u8],
-) -> Entry
+) -> Option<Said>
     ensures value { result ≡ Entry·.read_by message.old kind one.now two.now three.now }
     ensures message_after { message.new ≡ Entry·.kept_by message.old kind one.now two.now three.now }
 {
     let form = form_of(kind);
-    let Number::Value(first) = number_in(form, 0, one) else {
-        return Entry::Unreadable;
-    };
-    let Number::Value(second) = number_in(form, 1, two) else {
-        return Entry::Unreadable;
-    };
-    let Octets::Count(octets) = hex(octets_in(form, one, three), message) else {
-        return Entry::Unreadable;
-    };
-    Entry::Says(Said {
+    let first = number_in(form, 0, one)?;
+    let second = number_in(form, 1, two)?;
+    let octets = hex(octets_in(form, one, three), message)?;
+    Some(Said {
         kind,
         first,
         second,
@@ -74,11 +62,11 @@ fn read_fields<'a>(
 }
 
 // The number that a field says, if the form has one more than so many before it; else 0.
-fn number_in(form: Form, before: u8, field: &[u8]) -> Number
+fn number_in(form: Form, before: u8, field: &[u8]) -> Option<u64>
     ensures { result ≡ Entry·.number_in form before field.now }
 {
     if numbers_of(form) <= before {
-        return Number::Value(0);
+        return Some(0);
     }
     decimal(field, u64::MAX)
 }
@@ -93,7 +81,6 @@ fn numbers_of(form: Form) -> u8
         Form::TwoNumbers => 2,
         Form::Message => 0,
         Form::TwoNumbersAndMessage => 2,
-        Form::Unknown => 0,
     }
 }
 
@@ -107,6 +94,5 @@ fn octets_in<'a>(form: Form, one: &'a [u8], three: &'a [u8]) -> &'a [u8]
         Form::TwoNumbers => &one[..0],
         Form::Message => one,
         Form::TwoNumbersAndMessage => three,
-        Form::Unknown => &one[..0],
     }
 }

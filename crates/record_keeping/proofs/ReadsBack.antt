@@ -9,14 +9,11 @@ use lib.Dec.{lit<}
 use lib.ListN.{length, drop, get_or}
 use lib.Seq.{slice, take_at}
 use borrow.Author.Tests.{le-leb}
+use Rattle.std.specs.Prelude.{Option, Some}
 use Rattle.text.specs.Part.{lf, tab, split, same_text}
 use Rattle.text_decimals.specs.Decimal.{decimal_of}
-use Rattle.text_decimals.specs.declared.decimal.Number.{Number}
-use Rattle.text_decimals.specs.declared.decimal.Number.TheVariants.{Value}
 use Rattle.text_decimals.proofs.Decimals.{decimal_read_back}
 use Rattle.text_hex.specs.Hex.{hex_of, count_of, filled}
-use Rattle.text_hex.specs.declared.hex.Octets.{Octets}
-use Rattle.text_hex.specs.declared.hex.Octets.TheVariants.{Count}
 use Rattle.text_hex.proofs.Octets.{hex_read_back}
 use Rattle.text_fields.specs.Fields.{number}
 use Rattle.record_kinds.specs.declared.Kind.{Kind}
@@ -36,7 +33,7 @@ use Rattle.record_keeping.specs.Recorder.{fields_of_call, fields_of_question, Sa
 use Rattle.record_keeping.proofs.Fields.{all_free_lem, spelled, all_spelled, all_free, decimal_spelled, hex_spelled, fields_apart, line_free, line_joined, split_on}
 
 -- a number of 16 bits that is written is read back
-number_back : (n : ℕ) → n < 65536 → number (decimal_of n) ≡ Value n
+number_back : (n : ℕ) → n < 65536 → number (decimal_of n) ≡ Some n
 number_back n h = decimal_read_back n 18446744073709551615 (omega arith) (omega arith)
 
 -- a number in its range stays as it is
@@ -49,7 +46,7 @@ code_is n h = omega arith
 -- octets that are written are read back into an area that has room for them
 octets_back :
     (area octets : List ℕ) → ((i : ℕ) → get_or octets i 0 < 256) → length octets ≤ length area →
-    (count_of (hex_of octets) area ≡ Count (length octets)) × (filled (hex_of octets) area ≡ octets ++ drop (length octets) area)
+    (count_of (hex_of octets) area ≡ Some (length octets)) × (filled (hex_of octets) area ≡ octets ++ drop (length octets) area)
 octets_back area octets small room =
     let back = hex_read_back octets small in
     let fits = le-leb (length octets) (length area) room in
@@ -63,8 +60,8 @@ Say area fields reading octets =
 
 -- numbers and octets that can be read make the call of the kind
 made :
-    (area : List ℕ) (kind : Kind) {first second count : ℕ} {a b : Number} {c : Octets} {after kept : List ℕ} {reading : Reading} →
-    a ≡ Value first → b ≡ Value second → (c ≡ Count count) × (after ≡ kept) →
+    (area : List ℕ) (kind : Kind) {first second count : ℕ} {a b c : Option ℕ} {after kept : List ℕ} {reading : Reading} →
+    a ≡ Some first → b ≡ Some second → (c ≡ Some count) × (after ≡ kept) →
     call_of kind (octet first) (octet second) (code first) count ≡ reading →
     (call_by (says_by kind a b c) ≡ reading) × (kept_with a b after area ≡ kept)
 made area kind e₁ e₂ e₃ same =

@@ -1,9 +1,9 @@
 -- "A line is a kind and its fields" (docs/FORMATS.md): what stands behind each kind.
 use Rattle.std.specs.Prelude.{ℕ}
 use Rattle.record_kinds.specs.declared.Kind.{Kind}
-use Rattle.record_kinds.specs.declared.Kind.TheVariants.{Service, Failure, Send, Acknowledged, Received, Host, Routes, T1, T2, T3, T4, T6, T8, T10, Other}
+use Rattle.record_kinds.specs.declared.Kind.TheVariants.{Service, Failure, Send, Acknowledged, Received, Host, Routes, T1, T2, T3, T4, T6, T8, T10}
 use Rattle.record_kinds.specs.declared.Form.{Form}
-use Rattle.record_kinds.specs.declared.Form.TheVariants.{Bare, OneNumber, TwoNumbers, Message, TwoNumbersAndMessage, Unknown}
+use Rattle.record_kinds.specs.declared.Form.TheVariants.{Bare, OneNumber, TwoNumbers, Message, TwoNumbersAndMessage}
 
 -- LINK; LINK NUMBER; LINK FSN OCTETS; OCTETS; DESTINATION; DESTINATION SET; nothing (R223)
 abbrev pub form_of : Kind → Form
@@ -21,7 +21,6 @@ form_of T4 = OneNumber
 form_of T6 = OneNumber
 form_of T8 = OneNumber
 form_of T10 = TwoNumbers
-form_of Other = Unknown
 
 -- how many fields such a line has, its kind among them
 abbrev pub fields_of : Form → ℕ
@@ -30,4 +29,3 @@ fields_of OneNumber = 2
 fields_of TwoNumbers = 3
 fields_of Message = 2
 fields_of TwoNumbersAndMessage = 4
-fields_of Unknown = 0

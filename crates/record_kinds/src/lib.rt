@@ -20,7 +20,6 @@ pub enum Kind {
     T6,
     T8,
     T10,
-    Other,
 }
 
 // What stands behind the word.
@@ -31,8 +30,6 @@ pub enum Form {
     TwoNumbers,
     Message,
     TwoNumbersAndMessage,
-    // No line begins with the word.
-    Unknown,
 }
 
 // What a line of a kind has behind its word.
@@ -54,11 +51,10 @@ pub fn form_of(kind: Kind) -> Form
         Kind::T6 => Form::OneNumber,
         Kind::T8 => Form::OneNumber,
         Kind::T10 => Form::TwoNumbers,
-        Kind::Other => Form::Unknown,
     }
 }
 
-// How many fields a line of a form has, its word among them; 0 where there is no such line.
+// How many fields a line of a form has, its word among them.
 pub fn fields_of(form: Form) -> u8
     ensures { result ≡ Kind·.fields_of form }
 {
@@ -68,6 +64,5 @@ pub fn fields_of(form: Form) -> u8
         Form::TwoNumbers => 3,
         Form::Message => 2,
         Form::TwoNumbersAndMessage => 4,
-        Form::Unknown => 0,
     }
 }

@@ -1,12 +1,11 @@
 -- A line of a record, read as a call or as a question (docs/FORMATS.md).
-use Rattle.std.specs.Prelude.{ℕ, min, List}
+use Rattle.std.specs.Prelude.{ℕ, min, List, Option, Some, None}
 use Rattle.node.specs.declared.call.Event.{Event}
 use Rattle.node.specs.declared.call.Event.TheVariants as Event·
 use Rattle.node.specs.declared.ask.Question.TheVariants.{RouteList}
 use Rattle.record_kinds.specs.declared.Kind.{Kind}
-use Rattle.record_kinds.specs.declared.Kind.TheVariants.{Service, Failure, Send, Acknowledged, Received, Host, Routes, T1, T2, T3, T4, T6, T8, T10, Other}
-use Rattle.record_entry.specs.declared.Entry.{Entry}
-use Rattle.record_entry.specs.declared.Entry.TheVariants as Entry·
+use Rattle.record_kinds.specs.declared.Kind.TheVariants.{Service, Failure, Send, Acknowledged, Received, Host, Routes, T1, T2, T3, T4, T6, T8, T10}
+use Rattle.record_entry.specs.declared.Said.{Said}
 use Rattle.record_entry.specs.Entry.{read_entry, area_after}
 use Rattle.record_reading.specs.declared.Reading.{Reading}
 use Rattle.record_reading.specs.declared.Reading.TheVariants.{Call, Asks, Unreadable}
@@ -39,12 +38,11 @@ call_of T4 link number destination octets = says (Event·.T4 link) octets
 call_of T6 link number destination octets = says (Event·.T6 destination) octets
 call_of T8 link number destination octets = says (Event·.T8 destination) octets
 call_of T10 link number destination octets = says (Event·.T10 destination number) octets
-call_of Other link number destination octets = Unreadable
 
 -- "a line that can't be read stops the replay there" (R227)
-abbrev pub call_by : Entry → Reading
-call_by (Entry·.Says said) = call_of said.kind (octet said.first) (octet said.second) (code said.first) said.octets
-call_by Entry·.Unreadable = Unreadable
+abbrev pub call_by : Option Said → Reading
+call_by (Some said) = call_of said.kind (octet said.first) (octet said.second) (code said.first) said.octets
+call_by None = Unreadable
 
 -- what a line says, its octets put into an area
 abbrev pub read_line : List ℕ → List ℕ → Reading

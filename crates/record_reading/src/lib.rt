@@ -7,7 +7,7 @@ ghost use Rattle.record_reading.specs.Record as Record;
 
 use node::ask::Question;
 use node::call::Event;
-use record_entry::{Entry, read_entry};
+use record_entry::read_entry;
 use record_kinds::Kind;
 
 // A call: the event, and how many octets its message has.
@@ -30,7 +30,7 @@ pub fn read_line(text: &[u8], at: usize, to: usize, message: &mut [u8]) -> Readi
     ensures value { result ≡ Record.read_line message.old (slice at to text.now) }
     ensures message_after { message.new ≡ Record.message_after message.old (slice at to text.now) }
 {
-    let Entry::Says(said) = read_entry(text, at, to, message) else {
+    let Some(said) = read_entry(text, at, to, message) else {
         return Reading::Unreadable;
     };
     let kind = said.kind;
@@ -62,7 +62,6 @@ fn call(kind: Kind, link: u8, number: u8, destination: u16, octets: usize) -> Re
         Kind::T6 => says(Event::T6(destination), octets),
         Kind::T8 => says(Event::T8(destination), octets),
         Kind::T10 => says(Event::T10(destination, number), octets),
-        Kind::Other => Reading::Unreadable,
     }
 }
 

@@ -7,58 +7,58 @@ ghost use Rattle.record_words.specs.KindWords.{kind_of, timer_of};
 use record_kinds::Kind;
 use text::part::same;
 
-// The kind that a text names.
-pub fn read_kind(text: &[u8]) -> Kind
+// The kind that a text names; none where no line begins with it.
+pub fn read_kind(text: &[u8]) -> Option<Kind>
     ensures { result ≡ kind_of text.now }
 {
     if same(text, b"service") {
-        return Kind::Service;
+        return Some(Kind::Service);
     }
     if same(text, b"failure") {
-        return Kind::Failure;
+        return Some(Kind::Failure);
     }
     if same(text, b"send") {
-        return Kind::Send;
+        return Some(Kind::Send);
     }
     if same(text, b"ack") {
-        return Kind::Acknowledged;
+        return Some(Kind::Acknowledged);
     }
     if same(text, b"received") {
-        return Kind::Received;
+        return Some(Kind::Received);
     }
     if same(text, b"host") {
-        return Kind::Host;
+        return Some(Kind::Host);
     }
     if same(text, b"routes") {
-        return Kind::Routes;
+        return Some(Kind::Routes);
     }
     timer_kind(text)
 }
 
 #[tactic(auto, unfolding(crate::specs::KindWords::timer_of))]
-fn timer_kind(text: &[u8]) -> Kind
+fn timer_kind(text: &[u8]) -> Option<Kind>
     ensures { result ≡ timer_of text.now }
 {
     if same(text, b"t1") {
-        return Kind::T1;
+        return Some(Kind::T1);
     }
     if same(text, b"t2") {
-        return Kind::T2;
+        return Some(Kind::T2);
     }
     if same(text, b"t3") {
-        return Kind::T3;
+        return Some(Kind::T3);
     }
     if same(text, b"t4") {
-        return Kind::T4;
+        return Some(Kind::T4);
     }
     if same(text, b"t6") {
-        return Kind::T6;
+        return Some(Kind::T6);
     }
     if same(text, b"t8") {
-        return Kind::T8;
+        return Some(Kind::T8);
     }
     if same(text, b"t10") {
-        return Kind::T10;
+        return Some(Kind::T10);
     }
-    Kind::Other
+    None
 }

@@ -68,18 +68,9 @@ fn index(text: &[u8], mark: u8) -> usize
 }
 
 // Whether two texts are the same.
+#[tactic(auto, using(crate::proofs::Same::same_by_octets))]
 pub fn same(a: &[u8], b: &[u8]) -> bool
     ensures { result ≡ Part·.same_text a.now b.now }
 {
-    if a.len() != b.len() {
-        return false;
-    }
-    let mut i = 0;
-    while i < a.len() {
-        if a[i] != b[i] {
-            return false;
-        }
-        i += 1;
-    }
-    true
+    a == b
 }

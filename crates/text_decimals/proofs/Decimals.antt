@@ -11,36 +11,35 @@ use lib.ListN.{length, drop, get_or, set, drop_of_length-le}
 use lib.Seq.{drop-cons, lt-length-set, get_or-set_same, drop-set-lt}
 use borrow.Author.Tests.{lt-ltb, le-ltb, ltb-true, ltb-false, le-leb, lt-leb, leb-true, leb-false, eq-eqb, ne_eqb}
 use Rattle.text_decimals.specs.Decimal.{is_digit, all_digits, is_plain, with_digit, value_on, digit_on, number_of, digits_on, decimal_of}
-use Rattle.text_decimals.specs.declared.decimal.Number.{Number}
-use Rattle.text_decimals.specs.declared.decimal.Number.TheVariants.{Value, Wrong}
+use Rattle.std.specs.Prelude.{Option, Some, None}
 use borrow.Table.Steps.{cases}
 use Rattle.text_decimals.proofs.Ranges.{inside}
 
 -- the number so far, and a digit more at a time
-unfoldable pub read : Number → List ℕ → ℕ → Number
+unfoldable pub read : Option ℕ → List ℕ → ℕ → Option ℕ
 read number [] top = number
-read (Value value) (c ∷ rest) top = read (digit_on value c top) rest top
-read Wrong (c ∷ rest) top = Wrong
+read (Some value) (c ∷ rest) top = read (digit_on value c top) rest top
+read None (c ∷ rest) top = None
 
 -- a digit that leads above the top value is wrong
-pub above_top : (value c top : ℕ) → top < with_digit value c → Wrong ≡ digit_on value c top
+pub above_top : (value c top : ℕ) → top < with_digit value c → None ≡ digit_on value c top
 above_top value c top h = simp (lt-leb (with_digit value c) top h, and-false)
 
 -- what was wrong once stays so
-pub read_wrong : (text : List ℕ) (top : ℕ) → read Wrong text top ≡ Wrong
+pub read_wrong : (text : List ℕ) (top : ℕ) → read None text top ≡ None
 unfolding read
 read_wrong [] top = refl
 read_wrong (c ∷ rest) top = refl
 
 -- the digit at a place is read, and what is left says the same
-pub read_on : (text : List ℕ) (i value top : ℕ) (longer said : Number) → i < length text
+pub read_on : (text : List ℕ) (i value top : ℕ) (longer said : Option ℕ) → i < length text
     → longer ≡ digit_on value (get_or text i 0) top
-    → read (Value value) (drop i text) top ≡ said → read longer (drop (i + 1) text) top ≡ said
+    → read (Some value) (drop i text) top ≡ said → read longer (drop (i + 1) text) top ≡ said
 unfolding read
 read_on text i value top longer said h digit so_far = simp (digit, add-one) (simp (drop-cons text i 0 h) at so_far)
 
 -- all of them are read
-pub read_end : (text : List ℕ) (i value top : ℕ) → length text ≤ i → read (Value value) (drop i text) top ≡ Value value
+pub read_end : (text : List ℕ) (i value top : ℕ) → length text ≤ i → read (Some value) (drop i text) top ≡ Some value
 unfolding read
 read_end text i value top h = simp (drop_of_length-le text {i = i} h)
 
@@ -52,7 +51,7 @@ value_grows value (c ∷ rest) = omega (arith, value_grows (with_digit value c) 
 
 -- a digit at a time or all at once: what leads above the top value never comes back
 read_all : (text : List ℕ) (value top : ℕ) → value ≤ top
-    → read (Value value) text top ≡ cond (all_digits text && leb (value_on value text) top) (Value (value_on value text)) Wrong
+    → read (Some value) text top ≡ cond (all_digits text && leb (value_on value text) top) (Some (value_on value text)) None
 unfolding read all_digits value_on
 read_all [] value top h = simp (le-leb value top h)
 read_all (c ∷ rest) value top h =
@@ -70,19 +69,19 @@ read_all (c ∷ rest) value top h =
 
 -- a decimal of one digit or more, with no 0 in front of others, says what its digits say
 pub read_plain : (text : List ℕ) (top : ℕ) → 0 < length text → (1 < length text → get_or text 0 0 ≡ 48 → ⊥)
-    → read (Value 0) text top ≡ number_of text top
+    → read (Some 0) text top ≡ number_of text top
 read_plain [] top some front = absurd (omega arith)
 read_plain (c ∷ []) top some front = read_all (c ∷ []) 0 top (omega arith) ∙ simp (or-true, and-true)
 read_plain (c ∷ d ∷ rest) top some front =
     read_all (c ∷ d ∷ rest) 0 top (omega arith) ∙ simp (ne_eqb c 48 (front (omega arith)), and-true)
 
 -- nothing is no plain decimal
-pub nothing_there : (text : List ℕ) (top : ℕ) → length text ≡ 0 → number_of text top ≡ Wrong
+pub nothing_there : (text : List ℕ) (top : ℕ) → length text ≡ 0 → number_of text top ≡ None
 nothing_there [] top none = refl
 nothing_there (c ∷ rest) top none = absurd (omega arith)
 
 -- with a 0 in front of others it is no plain decimal
-pub zero_in_front : (text : List ℕ) (top : ℕ) → 1 < length text → get_or text 0 0 ≡ 48 → number_of text top ≡ Wrong
+pub zero_in_front : (text : List ℕ) (top : ℕ) → 1 < length text → get_or text 0 0 ≡ 48 → number_of text top ≡ None
 zero_in_front [] top more front = absurd (omega arith)
 zero_in_front (c ∷ []) top more front = absurd (omega arith)
 zero_in_front (c ∷ d ∷ rest) top more front = simp (eq-eqb c 48 front, and-false)
@@ -144,12 +143,12 @@ plain_back (suc most) n rest some h =
     let more : 10 ≤ n = ltb-false n 10 e in
     simp (e, plain_back most (n / 10) ((48 + n % 10) ∷ rest) (omega arith) (omega arith), digit_back (n % 10) (omega arith)))
 
-zero_back : (top : ℕ) → number_of (decimal_of 0) top ≡ Value 0
+zero_back : (top : ℕ) → number_of (decimal_of 0) top ≡ Some 0
 unfolding digits_on all_digits value_on
 zero_back top = simp (le-leb 0 top (omega arith))
 
 -- a number that is written is read back as it was
-pub decimal_read_back : (n top : ℕ) → n ≤ top → n < 10 ^ 20 → number_of (decimal_of n) top ≡ Value n
+pub decimal_read_back : (n top : ℕ) → n ≤ top → n < 10 ^ 20 → number_of (decimal_of n) top ≡ Some n
 unfolding all_digits value_on
 decimal_read_back zero top within fits = zero_back top
 decimal_read_back (suc n) top within fits =

@@ -1,8 +1,6 @@
 -- Plain decimals: no sign, no leading zero, of any length, up to a top value.
-use Rattle.std.specs.Prelude.{ℕ, zero, suc, ◌+◌, ◌-◌, ◌*◌, ◌/◌, ◌%◌, Bool, true, false, cond, not, ◌&&◌, ◌||◌, List, [], ◌∷◌, eqb, leb, ltb}
+use Rattle.std.specs.Prelude.{ℕ, zero, suc, ◌+◌, ◌-◌, ◌*◌, ◌/◌, ◌%◌, Bool, true, false, cond, not, ◌&&◌, ◌||◌, List, [], ◌∷◌, Option, Some, None, eqb, leb, ltb}
 use Rattle.text.specs.Part.{is_empty}
-use Rattle.text_decimals.specs.declared.decimal.Number.{Number}
-use Rattle.text_decimals.specs.declared.decimal.Number.TheVariants.{Value, Wrong}
 
 -- an octet that is one of 0 to 9
 abbrev pub is_digit : ℕ → Bool
@@ -27,13 +25,13 @@ unfoldable pub value_on : ℕ → List ℕ → ℕ
 value_on value [] = value
 value_on value (c ∷ rest) = value_on (with_digit value c) rest
 
--- a number with one digit more behind it, or that it is wrong: no digit, or above the top value
-abbrev pub digit_on : ℕ → ℕ → ℕ → Number
-digit_on value c top = cond (is_digit c && leb (with_digit value c) top) (Value (with_digit value c)) Wrong
+-- a number with one digit more behind it; none where that is no digit, or it comes above the top value
+abbrev pub digit_on : ℕ → ℕ → ℕ → Option ℕ
+digit_on value c top = cond (is_digit c && leb (with_digit value c) top) (Some (with_digit value c)) None
 
--- "not a plain decimal (no leading zero) or out of range" (R167): the number, or that it is wrong
-abbrev pub number_of : List ℕ → ℕ → Number
-number_of text top = cond (is_plain text && leb (value_on 0 text) top) (Value (value_on 0 text)) Wrong
+-- "not a plain decimal (no leading zero) or out of range" (R167): the number; none where the text is wrong
+abbrev pub number_of : List ℕ → ℕ → Option ℕ
+number_of text top = cond (is_plain text && leb (value_on 0 text) top) (Some (value_on 0 text)) None
 
 -- the digits of a number of at most `most` digits, in front of `rest`
 unfoldable pub digits_on : ℕ → ℕ → List ℕ → List ℕ

@@ -5,52 +5,38 @@ ghost use Rattle.text_decimals.specs.Decimal.{number_of, digit_on, decimal_of};
 
 use text::put::put;
 
-// What a decimal says, or that it isn't plain or is above the top value.
-#[derive(Clone, Copy)]
-pub enum Number {
-    Value(u64),
-    Wrong,
-}
-
-// The number that the text says, of any length of digits.
-pub fn decimal(text: &[u8], top: u64) -> Number
+// The number that the text says, of any length of digits; none where it isn't plain or is above the top value.
+pub fn decimal(text: &[u8], top: u64) -> Option<u64>
     ensures { result ≡ number_of text.now top }
 {
     if text.len() == 0 {
-        return Number::Wrong;
+        return None;
     }
-    if 1 < text.len() {
-        if text[0] == b'0' {
-            return Number::Wrong;
-        }
+    if 1 < text.len() && text[0] == b'0' {
+        return None;
     }
     let mut value = 0;
-    let mut i = 0;
-    while i < text.len() {
-        let Number::Value(longer) = with_digit(value, text[i], top) else {
-            return Number::Wrong;
-        };
-        value = longer;
-        i += 1;
+    for octet in text {
+        value = with_digit(value, *octet, top)?;
     }
-    Number::Value(value)
+    Some(value)
 }
 
 // The number with one digit more behind it, if it stays within the top value.
-fn with_digit(value: u64, octet: u8, top: u64) -> Number
+fn with_digit(value: u64, octet: u8, top: u64) -> Option<u64>
     ensures { result ≡ digit_on value octet top }
 {
     if octet < b'0' || b'9' < octet {
-        return Number::Wrong;
+        return None;
     }
     let digit = (octet - b'0') as u64;
     if top < digit {
-        return Number::Wrong;
+        return None;
     }
     if (top - digit) / 10 < value {
-        return Number::Wrong;
+        return None;
     }
-    Number::Value(value * 10 + digit)
+    Some(value * 10 + digit)
 }
 
 // Writes the plain decimal of a number, as `put` does.

@@ -1,9 +1,8 @@
 -- "fields parted by one tab" (docs/FORMATS.md): the first four of a line, found one after the other. No line of ours has more.
-use Rattle.std.specs.Prelude.{ℕ, Bool, cond, List}
+use Rattle.std.specs.Prelude.{ℕ, Bool, cond, List, Option}
 use Rattle.text.specs.Part.{field_at}
 use Rattle.text.specs.declared.part.Part.{Part}
 use Rattle.text_decimals.specs.Decimal.{number_of}
-use Rattle.text_decimals.specs.declared.decimal.Number.{Number}
 use Rattle.text_fields.specs.declared.Found.{Found}
 
 -- how many fields there are, by which of the first four a tab closes; 5 for more than four
@@ -30,5 +29,5 @@ fields_at text at to =
     fields_by zero one two (field_at text two.next to)
 
 -- "any plain decimal of 64 bits" (decision 17): the number that a field says
-abbrev pub number : List ℕ → Number
+abbrev pub number : List ℕ → Option ℕ
 number field = number_of field 18446744073709551615

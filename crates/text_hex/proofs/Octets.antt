@@ -10,7 +10,7 @@ use lib.Dec.{eqb, leb, ltb}
 use lib.ListN.{length, drop, get_or}
 use borrow.Author.Tests.{lt-ltb, le-ltb, ltb-true, ltb-false}
 use Rattle.text_hex.specs.Hex.{nibble, is_hex, octets_of, readable, count_of, filled, glyph, hex_of}
-use Rattle.text_hex.specs.declared.hex.Octets.TheVariants.{Wrong}
+use Rattle.std.specs.Prelude.{None}
 use borrow.Table.Steps.{cases}
 use Rattle.text_decimals.proofs.Ranges.{inside, below, above}
 
@@ -87,7 +87,7 @@ digits_at (a ∷ b ∷ rest) (suc i) hex h =
     simp (pair_on, add-one) (simp add-one at (digits_at rest i (pair_first a b rest hex).1.1 (omega arith)))
 
 -- a text that can't be read leaves the area as it was
-pub unreadable : (text out : List ℕ) → readable text out ≡ false → (Wrong ≡ count_of text out) × (out ≡ filled text out)
+pub unreadable : (text out : List ℕ) → readable text out ≡ false → (None ≡ count_of text out) × (out ≡ filled text out)
 unreadable text out e = (simp e, simp e)
 
 -- the two digits of the octet at a place

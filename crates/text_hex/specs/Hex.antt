@@ -1,7 +1,5 @@
 -- Octets as pairs of hex digits: written in lower case, read in either.
-use Rattle.std.specs.Prelude.{ℕ, ◌+◌, ◌-◌, ◌*◌, ◌/◌, ◌%◌, Bool, true, false, cond, ◌&&◌, List, [], ◌∷◌, ◌++◌, length, drop, leb, ltb}
-use Rattle.text_hex.specs.declared.hex.Octets.{Octets}
-use Rattle.text_hex.specs.declared.hex.Octets.TheVariants.{Count, Wrong}
+use Rattle.std.specs.Prelude.{ℕ, ◌+◌, ◌-◌, ◌*◌, ◌/◌, ◌%◌, Bool, true, false, cond, ◌&&◌, List, [], ◌∷◌, ◌++◌, Option, Some, None, length, drop, leb, ltb}
 use Rattle.text_decimals.specs.Decimal.{is_digit}
 
 -- what a hex digit says, in either case; 16 of an octet that is none
@@ -27,9 +25,9 @@ octets_of (a ∷ b ∷ rest) = (nibble a * 16 + nibble b) ∷ octets_of rest
 abbrev pub readable : List ℕ → List ℕ → Bool
 readable text out = is_hex text && leb (length (octets_of text)) (length out)
 
--- how many octets a text says, or that it is wrong
-abbrev pub count_of : List ℕ → List ℕ → Octets
-count_of text out = cond (readable text out) (Count (length (octets_of text))) Wrong
+-- how many octets a text says; none where it is wrong
+abbrev pub count_of : List ℕ → List ℕ → Option ℕ
+count_of text out = cond (readable text out) (Some (length (octets_of text))) None
 
 -- the area with those octets at its start, the rest as it was; all of it, where the text is wrong
 abbrev pub filled : List ℕ → List ℕ → List ℕ

@@ -3,28 +3,22 @@ ghost use Rattle.std.specs.Prelude.{◌≡◌, ◌++◌, true, ◌*◌, ◌/◌,
 ghost use Rattle.text.specs.Put.{written, past};
 ghost use Rattle.text_hex.specs.Hex as Hex;
 
-// How many octets a text says, or that it isn't pairs of hex digits or has more than the area holds.
-#[derive(Clone, Copy)]
-pub enum Octets {
-    Count(usize),
-    Wrong,
-}
-
-// Puts the octets that the text says at the start of the area; where it is wrong, the area stays as it was.
+// Puts the octets that the text says at the start of the area and answers how many; none where it isn't pairs of hex digits or has
+// more than the area holds: then the area stays as it was.
 #[tactic(auto, using(crate::proofs::Octets::octets_length))]
-pub fn hex(text: &[u8], out: &mut [u8]) -> Octets
+pub fn hex(text: &[u8], out: &mut [u8]) -> Option<usize>
     ensures value { result ≡ Hex.count_of text.now out.old }
     ensures out_after { out.new ≡ Hex.filled text.now out.old }
 {
     let count = text.len() / 2;
     if out.len() < count {
-        return Octets::Wrong;
+        return None;
     }
     if !is_hex(text) {
-        return Octets::Wrong;
+        return None;
     }
     fill(text, out);
-    Octets::Count(count)
+    Some(count)
 }
 
 // What a hex digit says; 16 of an octet that is none.
@@ -45,15 +39,13 @@ fn nibble(octet: u8) -> u8
 fn is_hex(text: &[u8]) -> bool
     ensures { result ≡ Hex.is_hex text.now }
 {
-    let mut i = 0;
-    while i < text.len() / 2 {
+    for i in 0..text.len() / 2 {
         if 15 < nibble(text[2 * i]) {
             return false;
         }
         if 15 < nibble(text[2 * i + 1]) {
             return false;
         }
-        i += 1;
     }
     text.len() % 2 == 0
 }
@@ -63,10 +55,8 @@ fn fill(text: &[u8], out: &mut [u8])
     requires text_in_bounds { length text.now / 2 ≤ length out.old }
     ensures { out.new ≡ Hex.octets_of text.now ++ drop (length (Hex.octets_of text.now)) out.old }
 {
-    let mut i = 0;
-    while i < text.len() / 2 {
+    for i in 0..text.len() / 2 {
         out[i] = nibble(text[2 * i]) * 16 + nibble(text[2 * i + 1]);
-        i += 1;
     }
 }
 
@@ -97,10 +87,8 @@ fn spell(octets: &[u8], out: &mut [u8])
     requires { 2 * length octets.now ≤ length out.old }
     ensures { out.new ≡ Hex.hex_of octets.now ++ drop (length (Hex.hex_of octets.now)) out.old }
 {
-    let mut i = 0;
-    while i < octets.len() {
-        out[2 * i] = glyph(octets[i] / 16);
-        out[2 * i + 1] = glyph(octets[i] % 16);
-        i += 1;
+    for (i, octet) in octets.iter().enumerate() {
+        out[2 * i] = glyph(*octet / 16);
+        out[2 * i + 1] = glyph(*octet % 16);
     }
 }

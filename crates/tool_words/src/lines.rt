@@ -1,7 +1,7 @@
 // Lines of a text by their number, and the fields of a line.
 use std::num::wrapping_add_u64;
 use text::part::{between, field, line, same};
-use text_decimals::decimal::{Number, decimal};
+use text_decimals::decimal::decimal;
 
 // A line: its place in a text, and its number.
 #[derive(Clone, Copy)]
@@ -63,8 +63,5 @@ pub fn past_two(text: &[u8], at: usize) -> usize {
 
 // The number that a field says; another where it says none.
 pub fn value(text: &[u8], otherwise: u64) -> u64 {
-    let Number::Value(number) = decimal(text, u64::MAX) else {
-        return otherwise;
-    };
-    number
+    decimal(text, u64::MAX).unwrap_or(otherwise)
 }

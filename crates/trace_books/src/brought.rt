@@ -1,6 +1,6 @@
 // What a line of the record brings: its octets, and what a trace keeps of the message that they are.
 use text::part::{between, field, same};
-use text_hex::hex::{Octets, hex};
+use text_hex::hex::hex;
 use trace_rows::held::Message;
 use wire::header::{delivered, read_header};
 use wire_messages::management::{Message as Management, read_message};
@@ -17,10 +17,7 @@ pub fn octets_of(line: &[u8], out: &mut [u8; 1024]) -> usize {
         let link = field(line, kind.next, line.len());
         at = field(line, link.next, line.len()).next;
     }
-    let Octets::Count(count) = hex(between(line, at, line.len()), out) else {
-        return 0;
-    };
-    count
+    hex(between(line, at, line.len()), out).unwrap_or(0)
 }
 
 // What is kept of a message, by its octets; its arrival number and place aren't known yet.

@@ -1,5 +1,4 @@
--- `text_hex::hex::spell` meets its contract. The loop's invariant: the area begins with the pairs of digits of the octets passed, and is as
--- long as it was. The measure is the octets left.
+-- `text_hex::hex::spell` meets its contract.
 -- Assumes nothing.
 use mathlib.Core.Path.{◌≡◌, sym, ap, ◌∙◌}
 use Prim.Native.Nat.{ℕ, ◌+◌, ◌*◌}
@@ -13,25 +12,18 @@ use Rattle.text_hex.proofs.hex.spell.Goals as goal
 
 pub loop-i-preserved : goal.loop-i-preserved
 loop-i-preserved c =
-    let at_turn = c in
-    let a = at_turn.args in
-    let l = at_turn.loop-i in
+    let a = c.args in
+    let l = c.loop-i in
     let hex : List ℕ = hex_of a.octets.now in
-    let high = c.glyph.ensures ∙ sym (high_at a.octets.now l.i at_turn.loop-i-test.true) in
-    let low = c.glyph-in-loop-i.ensures ∙ sym (low_at a.octets.now l.i at_turn.loop-i-test.true) in
+    let high = c.glyph.ensures ∙ sym (high_at a.octets.now l.i c.loop-i-test.true) in
+    let low = c.glyph-in-loop-i.ensures ∙ sym (low_at a.octets.now l.i c.loop-i-test.true) in
     let on : 2 * l.i + 1 + 1 ≡ 2 * (l.i + 1) = omega arith in
     let two : length hex ≡ 2 * length a.octets.now = hex_length a.octets.now in
-    let one_more = begun_next hex a.out.now l.out (2 * l.i) _ l.invariant.1.0 high (omega arith) (omega arith) in
-    let both = begun_next hex a.out.now _ (2 * l.i + 1) _ one_more low (omega arith) (omega arith) in (
-      omega arith,
-      (
-        both ∙ ap (begun hex a.out.now) on,
-        simp length-set l.invariant.1.1,
-      ),
-    )
+    let one_more = begun_next hex a.out.now l.out (2 * l.i) _ l.invariant high (omega arith) (omega arith) in
+    begun_next hex a.out.now _ (2 * l.i + 1) _ one_more low (omega arith) (omega arith) ∙ ap (begun hex a.out.now) on
 
 pub returns : goal.returns
 returns c =
     let l = c.loop-i in
     let a = c.args in
-    l.invariant.1.0 ∙ begun_all (hex_of a.octets.now) a.out.now (2 * l.i) (omega (arith, hex_length a.octets.now))
+    l.invariant ∙ begun_all (hex_of a.octets.now) a.out.now (2 * l.i) (omega (arith, hex_length a.octets.now))
