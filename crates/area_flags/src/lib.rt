@@ -9,29 +9,19 @@ ghost use Rattle.area_flags.specs.Flags as Flags;
 pub fn word(on: bool) -> u32
     ensures { result ≡ Flags.word on }
 {
-    if on { 1 } else { 0 }
+    u32::from(on)
 }
 
 pub fn flag(marks: &[u32; 512], destination: usize, place: usize) -> bool
     ensures { result ≡ Flags.flag_at marks.now destination place }
 {
-    if 64 <= destination {
-        return false;
-    }
-    if 8 <= place {
-        return false;
-    }
-    0 < marks[8 * destination + place]
+    destination < 64 && place < 8 && 0 < marks[8 * destination + place]
 }
 
 pub fn set_flag(marks: &mut [u32; 512], destination: usize, place: usize, on: bool)
     ensures { marks.new ≡ Flags.with_flag marks.old destination place on }
 {
-    if 64 <= destination {
-        return;
+    if destination < 64 && place < 8 {
+        marks[8 * destination + place] = word(on);
     }
-    if 8 <= place {
-        return;
-    }
-    marks[8 * destination + place] = word(on);
 }

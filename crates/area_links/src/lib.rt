@@ -5,10 +5,10 @@ ghost use Rattle.std.specs.Prelude.{◌≡◌};
 ghost use Rattle.area_links.specs.LinkRecords.{record_at, with_record};
 
 use area_flags::word;
-use constants::{LINKS, OUT};
+use constants::LINKS;
 
-// What changes of a link.
-#[derive(Clone, Copy)]
+// What changes of a link. By default it is out, and nothing runs.
+#[derive(Clone, Copy, Default)]
 pub struct LinkRecord {
     // 0 out, 1 waiting, 2 open, 3 changing.
     pub state: u8,
@@ -28,15 +28,7 @@ pub fn load_link(links: &[u32; 256], link: u8) -> LinkRecord
     ensures { result ≡ record_at links.now link }
 {
     if LINKS <= link {
-        return LinkRecord {
-            state: OUT,
-            acknowledged: 0,
-            received: 0,
-            sent: 0,
-            timer: 0,
-            t3: false,
-            code: 0,
-        };
+        return LinkRecord::default();
     }
     let at = 8 * (link as usize);
     LinkRecord {

@@ -29,12 +29,9 @@ fn waits(known: LinkRecord, t3: bool, code: u8) -> LinkRecord
 {
     LinkRecord {
         state: state_left(known, t3, code),
-        acknowledged: known.acknowledged,
-        received: known.received,
-        sent: known.sent,
-        timer: known.timer,
         t3,
         code,
+        ..known
     }
 }
 

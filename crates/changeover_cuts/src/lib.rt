@@ -56,11 +56,10 @@ pub fn out_of(known: LinkRecord) -> LinkRecord
 {
     LinkRecord {
         state: OUT,
-        acknowledged: known.acknowledged,
-        received: known.received,
         sent: 0,
         timer: 0,
         t3: false,
         code: 0,
+        ..known
     }
 }

@@ -58,12 +58,10 @@ pub fn changing(known: LinkRecord, told: bool) -> LinkRecord
     let timer = if told { 2 } else { 1 };
     LinkRecord {
         state: CHANGING,
-        acknowledged: known.acknowledged,
-        received: known.received,
-        sent: known.sent,
         timer,
         t3: false,
         code: 0,
+        ..known
     }
 }
 

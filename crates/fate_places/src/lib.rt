@@ -42,13 +42,11 @@ fn stands(
     ensures { result ≡ Places.stands (held spans.now rings.now rows.now) queue arrival }
 {
     let many = places(spans, rings, rows, queue);
-    let mut place = 0u16;
-    while place < many {
+    for place in 0..many {
         let known = message_at(spans, rings, rows, queue, place);
         if known.arrival == arrival {
             return true;
         }
-        place += 1;
     }
     false
 }
@@ -78,12 +76,10 @@ fn stands_near(
 fn queue_of(spans: &[u16; 70], rings: &[u8; 8960], rows: &[u64; 2048], arrival: u64) -> u8
     ensures { result ≡ Places.queue_with (held spans.now rings.now rows.now) arrival }
 {
-    let mut queue = 0u8;
-    while queue < 33 {
+    for queue in 0..33 {
         if stands(spans, rings, rows, queue, arrival) {
             return queue;
         }
-        queue += 1;
     }
     33
 }
@@ -94,12 +90,10 @@ fn dropped(reports: &[u64], count: usize, arrival: u64) -> bool
 {
     let held = reports.len() / 2;
     let count = if count < held { count } else { held };
-    let mut k = 0;
-    while k < count {
+    for k in 0..count {
         if tells_drop(reports[2 * k], reports[2 * k + 1], arrival) {
             return true;
         }
-        k += 1;
     }
     false
 }
