@@ -1,12 +1,13 @@
 // What a line of the record brings: its octets, and what a trace keeps of the message that they are.
 use text::part::{between, field, same};
+use text::put::put;
 use text_hex::hex::{Octets, hex};
-use trace_rows::held::Message;
+use trace_rows::held::{Message, Place};
 use wire::header::{HeaderRead, read_header};
 use wire_messages::management::{Message as Management, MessageRead, read_message};
 
-// The octets of a line, at the start of the area; how many there are, 0 of a line that has none.
-pub fn octets_of(line: &[u8], out: &mut [u8; 1024]) -> usize {
+// The octets of a line, put at the start of the area; none of a line that has none.
+pub fn octets_of<'a>(line: &[u8], out: &'a mut [u8; 1024]) -> &'a [u8] {
     let kind = field(line, 0, line.len());
     let word = between(line, 0, kind.end);
     let mut at = line.len();
@@ -18,15 +19,15 @@ pub fn octets_of(line: &[u8], out: &mut [u8; 1024]) -> usize {
         at = field(line, link.next, line.len()).next;
     }
     let Octets::Count(count) = hex(between(line, at, line.len()), out) else {
-        return 0;
+        return between(out, 0, 0);
     };
-    count
+    between(out, 0, count)
 }
 
 // What is kept of a message, by its octets; its arrival number and place aren't known yet.
 pub fn message_of(octets: &[u8], line: u64) -> Message {
     let HeaderRead::Read(header) = read_header(octets) else {
-        return made(line, 0, 0, 0, 0);
+        return made(line, 0, 0, 0, None);
     };
     let label = header.label;
     let mut message = made(
@@ -34,17 +35,17 @@ pub fn message_of(octets: &[u8], line: u64) -> Message {
         label.opc as u64,
         label.dpc as u64,
         label.sls as u64,
-        0,
+        None,
     );
     let own = between(octets, 5, octets.len());
     message.si = header.si as u64;
     message.length = own.len() as u64;
-    message.octets = packed(own);
+    put(&mut message.octets, 0, between(own, 0, 8));
     message
 }
 
 // A message that the node made at a line, between two points and with an SLS, by the letters of its name.
-pub fn made(line: u64, origin: u64, destination: u64, sls: u64, name: u64) -> Message {
+pub fn made(line: u64, origin: u64, destination: u64, sls: u64, name: Option<[u8; 3]>) -> Message {
     Message {
         arrival: 0,
         line,
@@ -54,55 +55,23 @@ pub fn made(line: u64, origin: u64, destination: u64, sls: u64, name: u64) -> Me
         name,
         si: 0,
         length: 0,
-        octets: 0,
-        place: 0,
-        sent: false,
-        fsn: 0,
-        left: 0,
+        octets: [0; 8],
+        place: Place::Apart,
+        sent: None,
         stood: false,
         moves: 0,
         twice: false,
     }
 }
 
-// The first eight octets in one number, the first the lowest.
-fn packed(octets: &[u8]) -> u64 {
-    let low = word(
-        octet(octets, 0),
-        octet(octets, 1),
-        octet(octets, 2),
-        octet(octets, 3),
-    );
-    let high = word(
-        octet(octets, 4),
-        octet(octets, 5),
-        octet(octets, 6),
-        octet(octets, 7),
-    );
-    joined(low, high)
-}
-
-fn word(a: u8, b: u8, c: u8, d: u8) -> u32 {
-    (a as u32) + 256 * ((b as u32) + 256 * ((c as u32) + 256 * (d as u32)))
-}
-
-fn joined(low: u32, high: u32) -> u64 {
-    (low as u64) + 4294967296 * (high as u64)
-}
-
-// The octet at a place, 0 past the end.
-fn octet(octets: &[u8], at: usize) -> u8 {
-    if at < octets.len() { octets[at] } else { 0 }
-}
-
-// The number that a COO or COA carries; 0 of any other message.
-pub fn changeover_number(octets: &[u8]) -> u64 {
+// The number that a COO or COA carries.
+pub fn changeover_number(octets: &[u8]) -> Option<u64> {
     let MessageRead::Read(message) = read_message(octets) else {
-        return 0;
+        return None;
     };
     match message {
-        Management::COO(number) => number as u64,
-        Management::COA(number) => number as u64,
-        _ => 0,
+        Management::COO(number) => Some(number as u64),
+        Management::COA(number) => Some(number as u64),
+        _ => None,
     }
 }
