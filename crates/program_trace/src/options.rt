@@ -3,7 +3,7 @@ use text::part::between;
 use text_decimals::decimal::decimal;
 use tool_files::arguments;
 use tool_files::arguments::{Arguments, NO_LINE, Word, complete, ends, next_word, unread, word_at};
-use trace_books::asked::{ANY, Asked};
+use trace_books::asked::Asked;
 
 #[derive(Clone, Copy)]
 pub struct Options {
@@ -39,9 +39,9 @@ fn nothing() -> Options {
         asked: Asked {
             first: 0,
             last: u64::MAX,
-            link: ANY,
-            destination: ANY,
-            circuit: ANY,
+            link: None,
+            destination: None,
+            circuit: None,
             lost: false,
             twice: false,
             changeovers: false,
@@ -128,9 +128,9 @@ fn with_number(asked: Asked, option: u64, number: u64) -> Asked {
     match option {
         5 => next.first = number,
         6 => next.last = number,
-        7 => next.link = number,
-        8 => next.destination = number,
-        _ => next.circuit = number,
+        7 => next.link = Some(number),
+        8 => next.destination = Some(number),
+        _ => next.circuit = Some(number),
     }
     next
 }

@@ -135,7 +135,7 @@ fn run_pieces(
     let mut octets = [0u8; 52416];
     let mut page = [0u8; 262144];
     let mut known = [0u32; 256];
-    let mut failures = [0u64; 32];
+    let mut failures = [None; 32];
     let mut order = [0u8; 256];
     let mut held = [0u64; 8192];
     let mut area = [0u8; 65536];
@@ -223,7 +223,7 @@ fn run_turn(
     piece: &mut [u8; 65536],
     page: &mut [u8; 262144],
     known: &mut [u32; 256],
-    failures: &mut [u64; 32],
+    failures: &mut [Option<u64>; 32],
     order: &mut [u8; 256],
     held: &mut [u64; 8192],
     area: &mut [u8; 65536],

@@ -1,9 +1,6 @@
 // Which messages are shown.
-use trace_rows::circuit::{circuit_of, has_circuit};
+use trace_rows::circuit::circuit_of;
 use trace_rows::held::Message;
-
-// What stands for any link, destination or circuit.
-pub const ANY: u64 = u64::MAX;
 
 // The lines that brought them, the link whose queue they stood in, their destination and circuit; whether only those that may be lost or only those that
 // may arrive twice are shown, or only sentences about links.
@@ -11,9 +8,9 @@ pub const ANY: u64 = u64::MAX;
 pub struct Asked {
     pub first: u64,
     pub last: u64,
-    pub link: u64,
-    pub destination: u64,
-    pub circuit: u64,
+    pub link: Option<u64>,
+    pub destination: Option<u64>,
+    pub circuit: Option<u64>,
     pub lost: bool,
     pub twice: bool,
     pub changeovers: bool,
@@ -27,15 +24,13 @@ pub fn shows(asked: Asked, message: Message, lost: bool) -> bool {
     if message.line < asked.first || asked.last < message.line {
         return false;
     }
-    if asked.link != ANY && !message.stood {
+    if asked.link.is_some() && !message.stood {
         return false;
     }
-    if asked.destination != ANY && message.destination != asked.destination {
-        return false;
-    }
-    asked.circuit == ANY || about(message, asked.circuit)
+    fits(asked.destination, Some(message.destination)) && fits(asked.circuit, circuit_of(message))
 }
 
-fn about(message: Message, circuit: u64) -> bool {
-    has_circuit(message) && circuit_of(message) == circuit
+// Whether a number is the one that is asked for, where one is.
+fn fits(asked: Option<u64>, number: Option<u64>) -> bool {
+    asked.is_none() || asked == number
 }

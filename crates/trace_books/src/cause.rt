@@ -1,12 +1,11 @@
 // What put a link out, and whether it tells what the far end took.
 use crate::changeover::Gone;
 use area_links::LinkRecord;
-use constants::{LINKS, WAITING};
+use constants::WAITING;
 use counting::in_range;
 use text::part::{between, field, same};
 use text::put::put;
 use text_pages::put_number;
-use trace_messages::told::NO_QUEUE;
 use wire_messages::management::{Message as Management, read_message};
 
 // A timer of its changeover; a changeover message, with its number, and whether that tells what the far end took; or the failure of a waiting link.
@@ -14,8 +13,8 @@ use wire_messages::management::{Message as Management, read_message};
 pub enum Cause {
     T1,
     T2,
-    COO(u8, bool),
-    COA(u8, bool),
+    COO { number: u8, tells: bool },
+    COA { number: u8, tells: bool },
     ECO,
     ECA,
     Failure,
@@ -35,8 +34,14 @@ pub fn cause_of(before: LinkRecord, text: &[u8], octets: &[u8]) -> Cause {
         return Cause::Failure;
     };
     match message {
-        Management::COO(number) => Cause::COO(number, tells(before, number)),
-        Management::COA(number) => Cause::COA(number, tells(before, number)),
+        Management::COO(number) => Cause::COO {
+            number,
+            tells: tells(before, number),
+        },
+        Management::COA(number) => Cause::COA {
+            number,
+            tells: tells(before, number),
+        },
         Management::ECO => Cause::ECO,
         _ => Cause::ECA,
     }
@@ -49,19 +54,19 @@ fn tells(before: LinkRecord, number: u8) -> bool {
 
 // The link that went out and is left in doubt, so that what was sent on it is sent again. An ECO or ECA doesn't tell either what the far end took, but
 // then nothing that was sent moves.
-pub fn doubted_by(gone: Gone, cause: Cause) -> u64 {
-    if LINKS <= gone.link || known_by(cause) {
-        return NO_QUEUE;
+pub fn doubted_by(gone: Gone, cause: Cause) -> Option<u64> {
+    if known_by(cause) {
+        return None;
     }
-    gone.link as u64
+    Some(gone.link as u64)
 }
 
 fn known_by(cause: Cause) -> bool {
     match cause {
         Cause::T1 => false,
         Cause::T2 => false,
-        Cause::COO(_, tells) => tells,
-        Cause::COA(_, tells) => tells,
+        Cause::COO { tells, .. } => tells,
+        Cause::COA { tells, .. } => tells,
         _ => true,
     }
 }
@@ -70,8 +75,8 @@ pub fn put_cause(out: &mut [u8], at: usize, cause: Cause) -> usize {
     match cause {
         Cause::T1 => put(out, at, b"T1"),
         Cause::T2 => put(out, at, b"T2"),
-        Cause::COO(number, tells) => put_numbered(out, at, b"COO", number, tells),
-        Cause::COA(number, tells) => put_numbered(out, at, b"COA", number, tells),
+        Cause::COO { number, tells } => put_numbered(out, at, b"COO", number, tells),
+        Cause::COA { number, tells } => put_numbered(out, at, b"COA", number, tells),
         Cause::ECO => put(out, at, b"ECO"),
         Cause::ECA => put(out, at, b"ECA"),
         Cause::Failure => put(out, at, b"its failure while waiting"),

@@ -3,14 +3,11 @@ use crate::asked::{Asked, shows};
 use crate::brought::made;
 use area_slots::load_slot;
 use std::io::Write;
-use std::num::wrapping_add_u64;
-use text::part::{between, line};
+use text::part::between;
 use tool_files::writer::{Writer, add};
 use trace_messages::fate::{Ending, put_line};
-use trace_messages::told::{
-    ACKNOWLEDGED, DROPPED, MOVED, QUEUED, RETIRED, SENT, Told, read, repeats,
-};
-use trace_rows::held::{Message, Move, load, store, store_move};
+use trace_messages::told::{Fate, Told, is_of, read, repeats};
+use trace_rows::held::{Message, Move, Place, Sent, load, store, store_move};
 use trace_rows::order::{place_of, row_at, set_free};
 
 // How many messages are held, and what is written.
@@ -25,9 +22,9 @@ pub struct Books<W> {
 pub struct Call {
     pub line: u64,
     pub message: Message,
-    pub number: u64,
+    pub number: Option<u64>,
     pub code: u64,
-    pub doubted: u64,
+    pub doubted: Option<u64>,
 }
 
 // The answer to a call, line by line.
@@ -42,17 +39,8 @@ pub fn take<W: Write>(
     area: &mut [u8; 65536],
 ) -> Books<W> {
     let mut next = books;
-    let mut at = 0;
-    let mut turns = answer.len();
-    while 0 < turns {
-        turns -= 1;
-        let part = line(answer, at);
-        if !part.closed {
-            break;
-        }
-        let told = read(between(answer, at, part.end));
-        next = take_line(next, asked, call, told, slots, order, held, area);
-        at = part.next;
+    for line in answer.split_inclusive(|octet| *octet == b'\n') {
+        next = take_line(next, asked, call, read(line), slots, order, held, area);
     }
     next
 }
@@ -67,24 +55,24 @@ fn take_line<W: Write>(
     held: &mut [u64; 8192],
     area: &mut [u8; 65536],
 ) -> Books<W> {
-    if told.word == 0 {
+    let Some(fate) = told.fate else {
         return books;
-    }
-    if told.word == QUEUED {
-        let message = queued(asked, call, told, slots);
+    };
+    if let Fate::Queued { at, name } = fate {
+        let message = queued(asked, call, told.arrival, at, name, slots);
         return kept(books, message, order, held);
     }
     let count = books.count;
     let place = place_of(order, held, count, told.arrival);
-    let row = row_at(order, place);
     if count <= place {
         return books;
     }
-    if told.word == SENT || told.word == MOVED {
+    let row = row_at(order, place);
+    let Some(ending) = ending_of(call, fate) else {
         change(asked, call, told, held, row);
         return books;
-    }
-    let lines = written(books.lines, asked, ending_of(call, told), held, row, area);
+    };
+    let lines = written(books.lines, asked, ending, held, row, area);
     set_free(order, count, place);
     Books {
         count: count - 1,
@@ -93,29 +81,34 @@ fn take_line<W: Write>(
 }
 
 // A message that was queued: the one that the call brings, or one that the node made.
-fn queued(asked: Asked, call: Call, told: Told, slots: &[u64; 2048]) -> Message {
+fn queued(
+    asked: Asked,
+    call: Call,
+    arrival: u64,
+    place: Place,
+    name: Option<[u8; 3]>,
+    slots: &[u64; 2048],
+) -> Message {
     let mut message = call.message;
-    if 0 < told.name {
-        let slot = load_slot(slots, slot_of(slots, told.arrival));
-        message = made(call.line, call.code, slot.point, slot.sls, told.name);
+    if name.is_some() {
+        let slot = load_slot(slots, slot_of(slots, arrival));
+        message = made(call.line, call.code, slot.point, slot.sls, name);
     }
-    message.arrival = told.arrival;
-    message.place = told.first;
-    message.stood = told.first == asked.link;
+    message.arrival = arrival;
+    message.place = place;
+    message.stood = is_of(place, asked.link);
     message
 }
 
 // The slot of a management message, by its arrival number: slots 192 to 255 hold them.
 fn slot_of(slots: &[u64; 2048], arrival: u64) -> u8 {
-    let mut slot = 192u8;
-    while slot < 255 {
+    for slot in 192..255u8 {
         let row = load_slot(slots, slot);
         if row.arrival == arrival && 0 < row.heading {
-            break;
+            return slot;
         }
-        slot += 1;
     }
-    slot
+    255
 }
 
 // A message more is held, in a row that was free.
@@ -140,41 +133,51 @@ fn kept<W>(
 // A message that is held was sent, or moved.
 fn change(asked: Asked, call: Call, told: Told, held: &mut [u64; 8192], row: u8) {
     let mut message = load(held, row);
-    if told.word == SENT {
-        message.sent = true;
-        message.fsn = told.second;
-        message.left = call.line;
-        store(held, row, message);
-        return;
+    match told.fate {
+        Some(Fate::Sent { fsn }) => {
+            let line = call.line;
+            message.sent = Some(Sent { fsn, line });
+        }
+        Some(Fate::Moved { from, to }) => {
+            let twice = repeats(told, message, call.doubted);
+            let made = Move {
+                from,
+                to,
+                line: call.line,
+                resent: resent(message, twice),
+            };
+            store_move(held, row, message.moves, made);
+            message.moves = message.moves.saturating_add(1);
+            message.place = to;
+            message.sent = None;
+            message.stood = message.stood || is_of(to, asked.link);
+            message.twice = message.twice || twice;
+        }
+        _ => {}
     }
-    let twice = repeats(told, message, call.doubted);
-    let made = Move {
-        from: told.first,
-        to: told.second,
-        line: call.line,
-        resent: if twice {
-            wrapping_add_u64(message.fsn, 1)
-        } else {
-            0
-        },
-    };
-    store_move(held, row, message.moves, made);
-    message.moves = wrapping_add_u64(message.moves, 1);
-    message.place = told.second;
-    message.sent = false;
-    message.stood = message.stood || told.second == asked.link;
-    message.twice = message.twice || twice;
     store(held, row, message);
 }
 
-fn ending_of(call: Call, told: Told) -> Ending {
-    if told.word == ACKNOWLEDGED {
-        return Ending::Acknowledged(call.line);
+// The number that a message had left with, where it may arrive twice.
+fn resent(message: Message, twice: bool) -> Option<u64> {
+    match message.sent {
+        Some(sent) if twice => Some(sent.fsn),
+        _ => None,
     }
-    if told.word == RETIRED {
-        return Ending::Retired(call.number, call.line);
+}
+
+// How a message ends, if it does.
+fn ending_of(call: Call, fate: Fate) -> Option<Ending> {
+    let line = call.line;
+    match fate {
+        Fate::Acknowledged => Some(Ending::Acknowledged { line }),
+        Fate::Retired => {
+            let by = call.number.unwrap_or(0);
+            Some(Ending::Retired { by, line })
+        }
+        Fate::Dropped { reason } => Some(Ending::Dropped { reason, line }),
+        _ => None,
     }
-    Ending::Dropped(told.first, call.line)
 }
 
 // The line of a message, where it is shown.
@@ -192,25 +195,15 @@ fn written<W: Write>(
     }
     let mut out = [0u8; 1024];
     let length = put_line(&mut out, held, row, ending);
-    added(lines, area, &out, length)
-}
-
-fn added<W: Write>(
-    lines: Writer<W>,
-    area: &mut [u8; 65536],
-    out: &[u8; 1024],
-    length: usize,
-) -> Writer<W> {
-    add(lines, area, between(out, 0, length))
+    add(lines, area, between(&out, 0, length))
 }
 
 // Whether a message may be lost: dropped, or held at the end and sent.
 fn lost(message: Message, ending: Ending) -> bool {
     match ending {
-        Ending::Acknowledged(_) => false,
-        Ending::Retired(_, _) => false,
-        Ending::Dropped(_, _) => true,
-        Ending::Held => message.sent,
+        Ending::Dropped { .. } => true,
+        Ending::Held => message.sent.is_some(),
+        _ => false,
     }
 }
 
@@ -224,10 +217,8 @@ pub fn end<W: Write>(
 ) -> Writer<W> {
     let count = books.count;
     let mut lines = books.lines;
-    let mut place = 0;
-    while place < count {
+    for place in 0..count {
         lines = written(lines, asked, Ending::Held, held, row_at(order, place), area);
-        place += 1;
     }
     lines
 }

@@ -1,19 +1,23 @@
 // Whether a message is about a circuit, and about which.
 ghost use Rattle.std.specs.Prelude.{◌≡◌};
-ghost use Rattle.trace_circuits.specs.Circuits.{circuit_of, has_circuit};
+ghost use Rattle.trace_circuits.specs.Circuits as Circuits;
 
 use crate::message::Message;
 
-// It is, with SI 5 and three octets or more behind its label.
-pub fn has_circuit(message: Message) -> bool
-    ensures { result ≡ has_circuit message }
+// The circuit that a message is about.
+pub fn circuit_of(message: Message) -> Option<u64>
+    ensures { result ≡ Circuits.circuit_of message }
 {
-    message.name == 0 && (message.si == 5 && 3 <= message.length)
+    if has_circuit(message) {
+        let octets = message.octets;
+        return Some((octets[0] as u64) + 256 * (octets[1] as u64 % 16));
+    }
+    None
 }
 
-// The circuit that such a message is about.
-pub fn circuit_of(message: Message) -> u64
-    ensures { result ≡ circuit_of message }
+// It is about one with SI 5 and three octets or more behind its label.
+fn has_circuit(message: Message) -> bool
+    ensures { result ≡ Circuits.has_circuit message }
 {
-    message.octets % 256 + 256 * (message.octets / 256 % 16)
+    message.name.is_none() && (message.si == 5 && 3 <= message.length)
 }

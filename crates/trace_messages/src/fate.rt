@@ -1,31 +1,26 @@
 // The line of a message: where it came from and goes, what it is, and what became of it.
 use crate::kind::put_kind;
-use crate::told::APART;
 use text::put::put;
 use text_pages::put_number;
 use tool_words::words::put_reason;
-use trace_rows::held::{Message, Move, load, load_move};
+use trace_rows::held::{Message, Move, Place, load, load_move};
 
-// What became of a message: acknowledged at a line; retired by a changeover number at a line; dropped at a line for a reason; still held.
+// What became of a message: acknowledged at a line; retired by a changeover number at a line; dropped for a reason at a line; still held.
 #[derive(Clone, Copy)]
 pub enum Ending {
-    Acknowledged(u64),
-    Retired(u64, u64),
-    Dropped(u64, u64),
+    Acknowledged { line: u64 },
+    Retired { by: u64, line: u64 },
+    Dropped { reason: u64, line: u64 },
     Held,
 }
 
 // The line, from the start of the area on; how long it is.
-pub fn put_line(out: &mut [u8; 1024], rows: &[u64; 8192], row: u8, ending: Ending) -> usize {
+pub fn put_line(out: &mut [u8], rows: &[u64; 8192], row: u8, ending: Ending) -> usize {
     let message = load(rows, row);
     let at = put_numbers(out, message);
-    let at = put_part(out, at, b"\t");
+    let at = put(out, at, b"\t");
     let at = put_moves(out, at, rows, row, message.moves);
     put_ending(out, at, message, ending)
-}
-
-fn put_part(out: &mut [u8; 1024], at: usize, part: &[u8]) -> usize {
-    put(out, at, part)
 }
 
 fn put_numbers(out: &mut [u8], message: Message) -> usize {
@@ -38,28 +33,26 @@ fn put_numbers(out: &mut [u8], message: Message) -> usize {
 }
 
 // The last eight moves, and how many there were before them.
-fn put_moves(out: &mut [u8; 1024], from: usize, rows: &[u64; 8192], row: u8, moves: u64) -> usize {
-    let mut at = from;
-    let mut number = if moves < 8 { 0 } else { moves - 8 };
-    if 0 < number {
-        at = put_before(out, at, number);
-    }
-    while number < moves {
-        at = put_move(out, at, rows, row, number);
-        number += 1;
+fn put_moves(out: &mut [u8], from: usize, rows: &[u64; 8192], row: u8, moves: u64) -> usize {
+    let before = moves.saturating_sub(8);
+    let mut at = put_before(out, from, before);
+    for number in before..moves {
+        at = put_move(out, at, load_move(rows, row, number));
     }
     at
 }
 
 fn put_before(out: &mut [u8], at: usize, count: u64) -> usize {
+    if count == 0 {
+        return at;
+    }
     let at = put(out, at, b"moved ");
     put_number(out, at, count, b" times before; ")
 }
 
-fn put_move(out: &mut [u8], at: usize, rows: &[u64; 8192], row: u8, number: u64) -> usize {
-    let made = load_move(rows, row, number);
-    if 0 < made.resent {
-        return put_resent(out, at, made, made.resent - 1);
+fn put_move(out: &mut [u8], at: usize, made: Move) -> usize {
+    if let Some(fsn) = made.resent {
+        return put_resent(out, at, made, fsn);
     }
     let at = put(out, at, b"moved ");
     let at = put_place(out, at, made.from, b" to ");
@@ -76,28 +69,30 @@ fn put_resent(out: &mut [u8], at: usize, made: Move, fsn: u64) -> usize {
 }
 
 // A link, or `apart`.
-fn put_place(out: &mut [u8], at: usize, place: u64, behind: &[u8]) -> usize {
-    if place == APART {
-        let at = put(out, at, b"apart");
-        return put(out, at, behind);
+fn put_place(out: &mut [u8], at: usize, place: Place, behind: &[u8]) -> usize {
+    match place {
+        Place::Link(link) => put_number(out, at, link, behind),
+        Place::Apart => {
+            let at = put(out, at, b"apart");
+            put(out, at, behind)
+        }
     }
-    put_number(out, at, place, behind)
 }
 
 fn put_ending(out: &mut [u8], at: usize, message: Message, ending: Ending) -> usize {
     match ending {
-        Ending::Acknowledged(line) => {
+        Ending::Acknowledged { line } => {
             let at = put(out, at, b"acknowledged");
-            let at = put_sent(out, at, message.place, message.fsn, b" at ");
+            let at = put_left(out, at, message, b" at ");
             put_number(out, at, line, b"\n")
         }
-        Ending::Retired(number, line) => {
+        Ending::Retired { by, line } => {
             let at = put(out, at, b"retired");
-            let at = put_sent(out, at, message.place, message.fsn, b" by ");
-            let at = put_number(out, at, number, b" at ");
+            let at = put_left(out, at, message, b" by ");
+            let at = put_number(out, at, by, b" at ");
             put_number(out, at, line, b"\n")
         }
-        Ending::Dropped(reason, line) => {
+        Ending::Dropped { reason, line } => {
             let at = put(out, at, b"dropped at ");
             let at = put_number(out, at, line, b": ");
             let at = put_reason(out, at, reason);
@@ -107,22 +102,31 @@ fn put_ending(out: &mut [u8], at: usize, message: Message, ending: Ending) -> us
     }
 }
 
-// The link that it left on, and its number there.
-fn put_sent(out: &mut [u8], at: usize, link: u64, fsn: u64, behind: &[u8]) -> usize {
+// The link that a message left on, and its number there.
+fn put_left(out: &mut [u8], at: usize, message: Message, behind: &[u8]) -> usize {
+    match message.sent {
+        Some(sent) => put_sent(out, at, message.place, sent.fsn, behind),
+        None => put(out, at, behind),
+    }
+}
+
+fn put_sent(out: &mut [u8], at: usize, place: Place, fsn: u64, behind: &[u8]) -> usize {
     let at = put(out, at, b" on ");
-    let at = put_number(out, at, link, b" as ");
+    let at = put_place(out, at, place, b" as ");
     put_number(out, at, fsn, behind)
 }
 
 fn put_held(out: &mut [u8], at: usize, message: Message) -> usize {
-    if message.sent {
+    if let Some(sent) = message.sent {
         let at = put(out, at, b"sent");
-        let at = put_sent(out, at, message.place, message.fsn, b" at ");
-        return put_number(out, at, message.left, b", not acknowledged\n");
+        let at = put_sent(out, at, message.place, sent.fsn, b" at ");
+        return put_number(out, at, sent.line, b", not acknowledged\n");
     }
-    if message.place == APART {
-        return put(out, at, b"held apart\n");
+    match message.place {
+        Place::Link(link) => {
+            let at = put(out, at, b"held on ");
+            put_number(out, at, link, b"\n")
+        }
+        Place::Apart => put(out, at, b"held apart\n"),
     }
-    let at = put(out, at, b"held on ");
-    put_number(out, at, message.place, b"\n")
 }

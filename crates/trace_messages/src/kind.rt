@@ -3,45 +3,30 @@ use text::part::between;
 use text::put::put;
 use text_hex::hex::put_hex;
 use text_pages::put_number;
-use trace_rows::circuit::{circuit_of, has_circuit};
+use trace_rows::circuit::circuit_of;
 use trace_rows::held::Message;
 
 pub fn put_kind(out: &mut [u8], at: usize, message: Message) -> usize {
-    if 0 < message.name {
-        let letters = octets_of(message.name);
-        return put(out, at, between(&letters, 0, 3));
+    if let Some(letters) = message.name {
+        return put(out, at, &letters);
     }
-    if has_circuit(message) {
+    let octets = message.octets;
+    if let Some(circuit) = circuit_of(message) {
         let at = put(out, at, b"circuit ");
-        let at = put_number(out, at, circuit_of(message), b" ");
-        return put_name(out, at, (message.octets / 65536 % 256) as u8);
+        let at = put_number(out, at, circuit, b" ");
+        return put_name(out, at, octets[2]);
     }
     let at = put(out, at, b"si ");
     if message.length == 0 {
         return put_number(out, at, message.si, b"");
     }
     let at = put_number(out, at, message.si, b" ");
-    let octets = octets_of(message.octets);
     put_hex(out, at, between(&octets, 0, shown(message.length)))
 }
 
 // At most eight octets are shown.
 fn shown(length: u64) -> usize {
-    if length < 8 { length as usize } else { 8 }
-}
-
-// The eight octets of a number, the lowest first.
-fn octets_of(number: u64) -> [u8; 8] {
-    [
-        (number % 256) as u8,
-        (number / 256 % 256) as u8,
-        (number / 65536 % 256) as u8,
-        (number / 16777216 % 256) as u8,
-        (number / 4294967296 % 256) as u8,
-        (number / 1099511627776 % 256) as u8,
-        (number / 281474976710656 % 256) as u8,
-        (number / 72057594037927936 % 256) as u8,
-    ]
+    length.min(8) as usize
 }
 
 // The name of what is said of a circuit, by its octet; two hex digits where it has none. Four places for each name, eight names in a line.

@@ -1,11 +1,11 @@
 // The ladder of a link that went out, drawn from the call that put it out: what is held of each message of its queue, and the answer.
 use crate::file::Picture;
-use crate::groups::{Group, going, leaving, limited, link_of, none};
+use crate::groups::{Alike, Group, beginning, going, leaving, limited, longer};
 use crate::rows::{Row, put_group, put_lines};
 use crate::shapes::{OURS, put_end, put_line, put_text, words_at, x_of};
 use std::fs::File;
 use std::num::wrapping_add_u64;
-use text::part::{between, line};
+use text::part::between;
 use text::put::put;
 use text_pages::put_number;
 use tool_files::writer::{Writer, add};
@@ -13,18 +13,22 @@ use trace_messages::told::{Told, read};
 use trace_rows::held::load;
 use trace_rows::order::row_of;
 
-// What is drawn: our code, the far point's, the link that went out, the lines of its failure (0 where it hadn't failed) and of the call,
-// whether a message put it out, the link if it is left in doubt, and how many messages are held.
+// What is drawn: our code, the far point's, the link that went out, the lines of its failure, if it had failed, and of the call, whether a message put it
+// out, and the link if it is left in doubt; the answer, how many messages moved to each link, and so many messages as they were held before the call.
 #[derive(Clone, Copy)]
-pub struct Scene {
+pub struct Scene<'a> {
     pub code: u64,
     pub far: u64,
     pub link: u64,
-    pub failed: u64,
+    pub failed: Option<u64>,
     pub call: u64,
     pub by_message: bool,
-    pub doubted: u64,
-    pub held: usize,
+    pub doubted: Option<u64>,
+    pub answer: &'a [u8],
+    pub counts: &'a [u64; 32],
+    pub messages: usize,
+    pub order: &'a [u8; 256],
+    pub held: &'a [u64; 8192],
 }
 
 // Space between rows.
@@ -34,26 +38,18 @@ const STEP: u64 = 28;
 pub fn draw(
     picture: Picture,
     area: &mut [u8; 65536],
-    scene: Scene,
+    scene: Scene<'_>,
     sentence: &[u8],
     cause: &[u8],
-    answer: &[u8],
-    counts: &[u64; 36],
-    order: &[u8; 256],
-    held: &[u64; 8192],
 ) -> Picture {
-    let columns = wrapping_add_u64(column_of(counts, 32), 1);
+    let columns = wrapping_add_u64(goals_before(scene.counts, 32), 1);
     let mut next = with_title(picture, area, sentence, words_at(columns));
     let top = next.y;
-    next = with_heads(next, area, scene, counts, columns);
-    next = with_groups(
-        next, area, scene, false, columns, answer, counts, order, held,
-    );
+    next = with_heads(next, area, scene, columns);
+    next = with_groups(next, area, scene, false, columns);
     next = with_failure(next, area, scene, columns);
     next = with_cause(next, area, scene, columns, cause);
-    next = with_groups(
-        next, area, scene, true, columns, answer, counts, order, held,
-    );
+    next = with_groups(next, area, scene, true, columns);
     let bottom = next.y;
     next.file = with_verticals(
         next.file,
@@ -66,60 +62,34 @@ pub fn draw(
     next
 }
 
-// The column of a link among those that messages moved to, counted from 0; of no link, how many they are.
-fn column_of(counts: &[u64; 36], link: u64) -> u64 {
-    let mut column = 0;
-    let mut at = 0;
-    while at < 32 {
-        if (at as u64) < link && 0 < counts[at] {
-            column = wrapping_add_u64(column, 1);
-        }
-        at += 1;
-    }
-    column
+// How many of the links below one messages moved to.
+fn goals_before(counts: &[u64; 32], link: usize) -> u64 {
+    let goals = counts.iter().take(link).filter(|count| 0 < **count);
+    goals.count() as u64
 }
 
 fn with_title(picture: Picture, area: &mut [u8; 65536], sentence: &[u8], words: u64) -> Picture {
     let y = wrapping_add_u64(picture.y, STEP);
     let mut out = [0u8; 2048];
     let length = put_text(&mut out, 0, b"t", 16, y);
-    let mut file = added(picture.file, area, &out, length);
+    let mut file = add(picture.file, area, between(&out, 0, length));
     file = add(file, area, sentence);
     file = add(file, area, b"</text>\n");
     let wide = wrapping_add_u64(words, 640);
     Picture {
         file,
         y,
-        wide: if picture.wide < wide {
-            wide
-        } else {
-            picture.wide
-        },
+        wide: picture.wide.max(wide),
     }
 }
 
-fn added(
-    file: Writer<File>,
-    area: &mut [u8; 65536],
-    out: &[u8; 2048],
-    length: usize,
-) -> Writer<File> {
-    add(file, area, between(out, 0, length))
-}
-
 // The heads of the columns: our point, the link, those that messages moved to, the far point.
-fn with_heads(
-    picture: Picture,
-    area: &mut [u8; 65536],
-    scene: Scene,
-    counts: &[u64; 36],
-    columns: u64,
-) -> Picture {
+fn with_heads(picture: Picture, area: &mut [u8; 65536], scene: Scene<'_>, columns: u64) -> Picture {
     let y = wrapping_add_u64(picture.y, STEP);
     let mut file = picture.file;
     file = with_head(file, area, b"our point ", scene.code, OURS, y);
     file = with_head(file, area, b"link ", scene.link, x_of(0), y);
-    file = with_goals(file, area, counts, y);
+    file = with_goals(file, area, scene.counts, y);
     file = with_head(file, area, b"point ", scene.far, x_of(columns), y);
     Picture {
         file,
@@ -138,7 +108,7 @@ fn with_head(
 ) -> Writer<File> {
     let mut out = [0u8; 2048];
     let length = put_head(&mut out, word, number, x, y);
-    added(file, area, &out, length)
+    add(file, area, between(&out, 0, length))
 }
 
 fn put_head(out: &mut [u8], word: &[u8], number: u64, x: u64, y: u64) -> usize {
@@ -151,17 +121,16 @@ fn put_head(out: &mut [u8], word: &[u8], number: u64, x: u64, y: u64) -> usize {
 fn with_goals(
     file: Writer<File>,
     area: &mut [u8; 65536],
-    counts: &[u64; 36],
+    counts: &[u64; 32],
     y: u64,
 ) -> Writer<File> {
     let mut next = file;
-    let mut link = 0;
-    while link < 32 {
-        if 0 < counts[link] {
-            let column = wrapping_add_u64(column_of(counts, link as u64), 1);
+    let mut column = 0;
+    for (link, count) in counts.iter().enumerate() {
+        if 0 < *count {
+            column = wrapping_add_u64(column, 1);
             next = with_head(next, area, b"link ", link as u64, x_of(column), y);
         }
-        link += 1;
     }
     next
 }
@@ -170,40 +139,34 @@ fn with_goals(
 fn with_groups(
     picture: Picture,
     area: &mut [u8; 65536],
-    scene: Scene,
+    scene: Scene<'_>,
     gone: bool,
     columns: u64,
-    answer: &[u8],
-    counts: &[u64; 36],
-    order: &[u8; 256],
-    held: &[u64; 8192],
 ) -> Picture {
     let mut next = picture;
-    let mut group = none();
-    let mut at = 0;
-    let mut turns = answer.len();
-    while 0 < turns {
-        turns -= 1;
-        let part = line(answer, at);
-        if !part.closed {
-            break;
+    let mut group = None;
+    let mut before = 0;
+    for line in scene.answer.split_inclusive(|octet| *octet == b'\n') {
+        let told = read(line);
+        let row = row_of(scene.order, scene.held, scene.messages, told.arrival);
+        let Some(alike) = alike_of(scene, gone, told, row) else {
+            continue;
+        };
+        let alike = limited(alike, before);
+        match group {
+            Some(known) if is_alike(known, alike) => group = Some(longer(known, row)),
+            _ => {
+                next = with_group(next, area, scene, columns, group);
+                group = Some(beginning(alike, row));
+                before = wrapping_add_u64(before, 1);
+            }
         }
-        let told = read(between(answer, at, part.end));
-        let row = row_of(order, held, scene.held, told.arrival);
-        let alike = limited(alike_of(scene, gone, told, held, row), group.before);
-        if alike == group.alike {
-            group = longer(group, row);
-        } else if 0 < alike {
-            next = with_group(next, area, scene, columns, counts, held, group);
-            group = other(group, alike, row);
-        }
-        at = part.next;
     }
-    with_group(next, area, scene, columns, counts, held, group)
+    with_group(next, area, scene, columns, group)
 }
 
-fn alike_of(scene: Scene, gone: bool, told: Told, held: &[u64; 8192], row: u8) -> u64 {
-    let message = load(held, row);
+fn alike_of(scene: Scene<'_>, gone: bool, told: Told, row: u8) -> Option<Alike> {
+    let message = load(scene.held, row);
     if gone {
         going(told, message, scene.doubted)
     } else {
@@ -211,41 +174,24 @@ fn alike_of(scene: Scene, gone: bool, told: Told, held: &[u64; 8192], row: u8) -
     }
 }
 
-// The group with one message more.
-fn longer(group: Group, row: u8) -> Group {
-    let mut next = group;
-    next.count = wrapping_add_u64(group.count, 1);
-    next.last = row;
-    next
-}
-
-// Another group, that begins with a message.
-fn other(group: Group, alike: u64, row: u8) -> Group {
-    Group {
-        alike,
-        count: 1,
-        first: row,
-        last: row,
-        before: wrapping_add_u64(group.before, 1),
-    }
+fn is_alike(group: Group, alike: Alike) -> bool {
+    group.alike == alike
 }
 
 fn with_group(
     picture: Picture,
     area: &mut [u8; 65536],
-    scene: Scene,
+    scene: Scene<'_>,
     columns: u64,
-    counts: &[u64; 36],
-    held: &[u64; 8192],
-    group: Group,
+    group: Option<Group>,
 ) -> Picture {
-    if group.alike == 0 {
+    let Some(group) = group else {
         return picture;
-    }
+    };
     let row = Row {
         y: picture.y,
         columns,
-        goal: wrapping_add_u64(column_of(counts, link_of(group.alike)), 1),
+        goal: column_of(scene.counts, group.alike),
         call: scene.call,
     };
     let mut out = [0u8; 2048];
@@ -253,36 +199,49 @@ fn with_group(
         &mut out,
         row,
         group,
-        load(held, group.first),
-        load(held, group.last),
+        load(scene.held, group.first),
+        load(scene.held, group.last),
     );
-    below(picture, area, &out, length)
+    below(picture, area, between(&out, 0, length))
+}
+
+// The column of the link that a group moved to, behind that of the link that went out.
+fn column_of(counts: &[u64; 32], alike: Alike) -> u64 {
+    match alike {
+        Alike::Moved { link, .. } => wrapping_add_u64(goals_before(counts, link as usize), 1),
+        _ => 0,
+    }
 }
 
 // A row is drawn: the next stands below.
-fn below(picture: Picture, area: &mut [u8; 65536], out: &[u8; 2048], length: usize) -> Picture {
+fn below(picture: Picture, area: &mut [u8; 65536], row: &[u8]) -> Picture {
     Picture {
-        file: added(picture.file, area, out, length),
+        file: add(picture.file, area, row),
         y: wrapping_add_u64(picture.y, STEP),
         wide: picture.wide,
     }
 }
 
-fn with_failure(picture: Picture, area: &mut [u8; 65536], scene: Scene, columns: u64) -> Picture {
-    if scene.failed == 0 {
+fn with_failure(
+    picture: Picture,
+    area: &mut [u8; 65536],
+    scene: Scene<'_>,
+    columns: u64,
+) -> Picture {
+    let Some(failed) = scene.failed else {
         return picture;
-    }
+    };
     let mut out = [0u8; 2048];
-    let length = put_failure(&mut out, scene, picture.y, columns);
-    below(picture, area, &out, length)
+    let length = put_failure(&mut out, scene.link, failed, picture.y, columns);
+    below(picture, area, between(&out, 0, length))
 }
 
-fn put_failure(out: &mut [u8], scene: Scene, y: u64, columns: u64) -> usize {
-    let at = put_lines(out, 0, y, scene.failed, scene.failed);
+fn put_failure(out: &mut [u8], link: u64, failed: u64, y: u64, columns: u64) -> usize {
+    let at = put_lines(out, 0, y, failed, failed);
     let at = put_line(out, at, b"fails", 320, y, 340, y);
     let at = put_text(out, at, b"w", words_at(columns), y);
     let at = put(out, at, b"link ");
-    let at = put_number(out, at, scene.link, b" fails");
+    let at = put_number(out, at, link, b" fails");
     put_end(out, at)
 }
 
@@ -290,16 +249,16 @@ fn put_failure(out: &mut [u8], scene: Scene, y: u64, columns: u64) -> usize {
 fn with_cause(
     picture: Picture,
     area: &mut [u8; 65536],
-    scene: Scene,
+    scene: Scene<'_>,
     columns: u64,
     cause: &[u8],
 ) -> Picture {
     let mut out = [0u8; 2048];
     let length = put_cause(&mut out, scene, picture.y, columns, cause);
-    below(picture, area, &out, length)
+    below(picture, area, between(&out, 0, length))
 }
 
-fn put_cause(out: &mut [u8], scene: Scene, y: u64, columns: u64, cause: &[u8]) -> usize {
+fn put_cause(out: &mut [u8], scene: Scene<'_>, y: u64, columns: u64, cause: &[u8]) -> usize {
     let at = put_lines(out, 0, y, scene.call, scene.call);
     let at = put_told(out, at, scene.by_message, y, columns);
     let at = put_text(out, at, b"w", words_at(columns), y);
@@ -323,12 +282,8 @@ fn with_verticals(
     bottom: u64,
 ) -> Writer<File> {
     let mut next = with_vertical(file, area, OURS, top, bottom);
-    let mut column = 0;
-    while column < 34 {
-        if column <= columns {
-            next = with_vertical(next, area, x_of(column), top, bottom);
-        }
-        column += 1;
+    for column in 0..=columns {
+        next = with_vertical(next, area, x_of(column), top, bottom);
     }
     next
 }
@@ -342,5 +297,5 @@ fn with_vertical(
 ) -> Writer<File> {
     let mut out = [0u8; 2048];
     let length = put_line(&mut out, 0, b"v", x, wrapping_add_u64(top, 8), x, bottom);
-    added(file, area, &out, length)
+    add(file, area, between(&out, 0, length))
 }

@@ -130,18 +130,13 @@ fn put_size(file: &File, wide: u64, high: u64) -> io::Result<()> {
     let at = put_ten(&mut out, at, wide);
     let at = put(&mut out, at, b"\" height=\"");
     let at = put_ten(&mut out, at, high);
-    write_at(file, &out, at)
-}
-
-fn write_at(file: &File, out: &[u8; 64], length: usize) -> io::Result<()> {
-    file.write_all_at(between(out, 0, length), 39)
+    file.write_all_at(between(&out, 0, at), 39)
 }
 
 fn put_ten(out: &mut [u8], at: usize, number: u64) -> usize {
     let shown = number % 10000000000;
     let mut digits = [0u8; 20];
     let length = put_decimal(&mut digits, 0, shown);
-    let rest = if length < 10 { 10 - length } else { 0 };
-    let at = put(out, at, between(b"0000000000", 0, rest));
+    let at = put(out, at, between(b"0000000000", length, 10));
     put_decimal(out, at, shown)
 }

@@ -1,107 +1,119 @@
 // Messages alike that stand in a row in an answer are drawn as one, with their count.
-use trace_messages::told::{DROPPED, MOVED, RETIRED, Told, repeats};
-use trace_rows::held::Message;
+use trace_messages::told::{Fate, Told, is_of, repeats};
+use trace_rows::held::{Message, Place};
 
-// How they are alike: sent and taken, sent and not taken, sent and not known whether taken; dropped for a reason; moved to a link, never sent before,
-// sent before, or sent before so that they may arrive twice; and those behind so many groups that they aren't told apart any more.
-pub const TAKEN: u64 = 1;
+// How they are alike: sent; dropped for a reason; moved to a link; or behind so many groups that they aren't told apart any more.
+#[derive(Clone, Copy, PartialEq, Eq)]
+pub enum Alike {
+    Sent(Taking),
+    Dropped { reason: u64 },
+    Moved { link: u64, manner: Manner },
+    More,
+}
 
-pub const NOT_TAKEN: u64 = 2;
+// Whether the far end took what was sent.
+#[derive(Clone, Copy, PartialEq, Eq)]
+pub enum Taking {
+    Taken,
+    NotTaken,
+    NotKnown,
+}
 
-pub const NOT_KNOWN: u64 = 3;
-
-pub const MORE: u64 = 4;
-
-pub const DROPPED_FOR: u64 = 8;
-
-pub const MOVED_TO: u64 = 128;
-
-pub const NOT_SENT: u64 = 0;
-
-pub const SENT: u64 = 1;
-
-pub const TWICE: u64 = 2;
+// Never sent before, sent before, or sent before so that they may arrive twice.
+#[derive(Clone, Copy, PartialEq, Eq)]
+pub enum Manner {
+    NotSent,
+    Sent,
+    Twice,
+}
 
 // The reason of a drop where it isn't known what the far end took.
 const UNKNOWN: u64 = 2;
 
-// What is alike, how many there are, the rows of the first and the last; and how many groups were drawn before.
+// How many groups are told apart.
+const GROUPS: u64 = 24;
+
+// What is alike, how many there are, the rows of the first and the last.
 #[derive(Clone, Copy)]
 pub struct Group {
-    pub alike: u64,
+    pub alike: Alike,
     pub count: u64,
     pub first: u8,
     pub last: u8,
-    pub before: u64,
 }
 
-pub fn none() -> Group {
+// A group that begins with a message.
+pub fn beginning(alike: Alike, row: u8) -> Group {
     Group {
-        alike: 0,
-        count: 0,
-        first: 0,
-        last: 0,
-        before: 0,
+        alike,
+        count: 1,
+        first: row,
+        last: row,
     }
 }
 
-// What is drawn of a message above the failure: how it left; 0 where it didn't.
-pub fn leaving(told: Told, message: Message, doubted: u64) -> u64 {
-    if !message.sent {
-        return 0;
+// The group with one message more.
+pub fn longer(group: Group, row: u8) -> Group {
+    Group {
+        alike: group.alike,
+        count: group.count.saturating_add(1),
+        first: group.first,
+        last: row,
     }
-    if told.word == RETIRED {
-        return TAKEN;
+}
+
+// What is drawn of a message above the failure: how it left, if it did.
+pub fn leaving(told: Told, message: Message, doubted: Option<u64>) -> Option<Alike> {
+    if message.sent.is_none() {
+        return None;
     }
-    let dropped = told.word == DROPPED;
-    if message.place == doubted || (dropped && told.first == UNKNOWN) {
-        return NOT_KNOWN;
+    let in_doubt = is_of(message.place, doubted);
+    match told.fate {
+        Some(Fate::Retired) => Some(Alike::Sent(Taking::Taken)),
+        Some(Fate::Dropped { reason }) => Some(Alike::Sent(untaken(in_doubt || reason == UNKNOWN))),
+        Some(Fate::Moved { .. }) => Some(Alike::Sent(untaken(in_doubt))),
+        _ if in_doubt => Some(Alike::Sent(Taking::NotKnown)),
+        _ => None,
     }
-    if dropped || told.word == MOVED {
-        NOT_TAKEN
+}
+
+fn untaken(unknown: bool) -> Taking {
+    if unknown {
+        Taking::NotKnown
     } else {
-        0
+        Taking::NotTaken
     }
 }
 
-// What is drawn of it below the changeover: where it went.
-pub fn going(told: Told, message: Message, doubted: u64) -> u64 {
-    if told.word == MOVED {
-        return moving(told, message, doubted);
-    }
-    if told.word == DROPPED {
-        DROPPED_FOR + told.first % 8
-    } else {
-        0
+// What is drawn of it below the changeover: where it went, if it did.
+pub fn going(told: Told, message: Message, doubted: Option<u64>) -> Option<Alike> {
+    match told.fate {
+        Some(Fate::Dropped { reason }) => Some(Alike::Dropped { reason }),
+        Some(
+            Fate::Moved {
+                to: Place::Link(link),
+                ..
+            },
+        ) => {
+            let manner = manner_of(told, message, doubted);
+            Some(Alike::Moved { link, manner })
+        }
+        _ => None,
     }
 }
 
-fn moving(told: Told, message: Message, doubted: u64) -> u64 {
-    let place = MOVED_TO + 4 * (told.second % 32);
+fn manner_of(told: Told, message: Message, doubted: Option<u64>) -> Manner {
     if repeats(told, message, doubted) {
-        return place + TWICE;
+        return Manner::Twice;
     }
-    if message.sent {
-        place + SENT
+    if message.sent.is_some() {
+        Manner::Sent
     } else {
-        place + NOT_SENT
+        Manner::NotSent
     }
 }
 
-// The link that a group moved to, and how.
-pub fn link_of(alike: u64) -> u64 {
-    alike / 4 % 32
-}
-
-pub fn manner_of(alike: u64) -> u64 {
-    alike % 4
-}
-
-// At most so many groups are told apart.
-pub fn limited(alike: u64, before: u64) -> u64 {
-    if 0 < alike && 24 <= before {
-        MORE
-    } else {
-        alike
-    }
+// Behind so many groups no more are told apart.
+pub fn limited(alike: Alike, before: u64) -> Alike {
+    if before < GROUPS { alike } else { Alike::More }
 }

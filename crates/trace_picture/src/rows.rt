@@ -1,13 +1,11 @@
 // A row of a ladder: the record's lines on the left, the arrow, and words on the right.
-use crate::groups::{
-    DROPPED_FOR, Group, MORE, MOVED_TO, NOT_SENT, NOT_TAKEN, TAKEN, TWICE, link_of, manner_of,
-};
+use crate::groups::{Alike, Group, Manner, Taking};
 use crate::shapes::{OURS, put_end, put_line, put_text, words_at, x_of};
 use text::put::put;
 use text_pages::put_number;
 use tool_words::words::put_reason;
 use trace_messages::kind::put_kind;
-use trace_rows::held::Message;
+use trace_rows::held::{Message, Sent};
 
 // What a row needs to know: its height, how many columns stand behind our point, the column that messages move to, and the record's line of the changeover.
 #[derive(Clone, Copy)]
@@ -19,27 +17,50 @@ pub struct Row {
 }
 
 // A group of messages, by its first and its last; how long what is drawn is.
-pub fn put_group(
-    out: &mut [u8; 2048],
+pub fn put_group(out: &mut [u8], row: Row, group: Group, first: Message, last: Message) -> usize {
+    let at = match group.alike {
+        Alike::Sent(taking) => put_sent(out, row, group.count, taking, first, last),
+        _ => put_gone(out, row, group),
+    };
+    let at = put_kinds(out, at, group.count, first, last);
+    put_end(out, at)
+}
+
+// Messages above the failure: the lines at which they were sent, with which numbers, and whether the far end took them.
+fn put_sent(
+    out: &mut [u8],
     row: Row,
-    group: Group,
+    count: u64,
+    taking: Taking,
     first: Message,
     last: Message,
 ) -> usize {
-    if group.alike < MORE {
-        let at = put_lines(out, 0, row.y, first.left, last.left);
-        let at = put_leaving(out, at, row, group.alike);
-        let at = put_text(out, at, b"w", words_at(row.columns), row.y);
-        let at = put_sent(out, at, group, first, last);
-        let at = put_kinds(out, at, group.count, first, last);
-        return put_end(out, at);
+    let from = sent_of(first);
+    let to = sent_of(last);
+    let at = put_lines(out, 0, row.y, from.line, to.line);
+    let at = put_leaving(out, at, row, taking);
+    let at = put_text(out, at, b"w", words_at(row.columns), row.y);
+    let at = put_number(out, at, count, b" sent as ");
+    let at = put_number(out, at, from.fsn, b"");
+    let at = put_to(out, at, from.fsn, to.fsn);
+    match taking {
+        Taking::Taken => put(out, at, b", taken: "),
+        Taking::NotTaken => put(out, at, b", not taken: "),
+        Taking::NotKnown => put(out, at, b", not known whether taken: "),
     }
+}
+
+// How a message left: each of such a group has.
+fn sent_of(message: Message) -> Sent {
+    message.sent.unwrap_or(Sent { fsn: 0, line: 0 })
+}
+
+// Messages below the changeover: where they went.
+fn put_gone(out: &mut [u8], row: Row, group: Group) -> usize {
     let at = put_lines(out, 0, row.y, row.call, row.call);
     let at = put_going(out, at, row, group.alike);
     let at = put_text(out, at, b"w", words_at(row.columns), row.y);
-    let at = put_gone(out, at, group);
-    let at = put_kinds(out, at, group.count, first, last);
-    put_end(out, at)
+    put_goal(out, at, group)
 }
 
 // The record's lines, one or from one to another.
@@ -59,61 +80,47 @@ fn put_to(out: &mut [u8], at: usize, first: u64, last: u64) -> usize {
 }
 
 // Those that were taken go to the far point; the others end behind the link.
-fn put_leaving(out: &mut [u8], at: usize, row: Row, alike: u64) -> usize {
-    if alike == TAKEN {
-        return put_line(out, at, b"taken", OURS, row.y, x_of(row.columns), row.y);
+fn put_leaving(out: &mut [u8], at: usize, row: Row, taking: Taking) -> usize {
+    match taking {
+        Taking::Taken => put_line(out, at, b"taken", OURS, row.y, x_of(row.columns), row.y),
+        Taking::NotTaken => put_line(out, at, b"cut", OURS, row.y, 385, row.y),
+        Taking::NotKnown => put_line(out, at, b"unknown", OURS, row.y, 385, row.y),
     }
-    if alike == NOT_TAKEN {
-        return put_line(out, at, b"cut", OURS, row.y, 385, row.y);
-    }
-    put_line(out, at, b"unknown", OURS, row.y, 385, row.y)
 }
 
-fn put_going(out: &mut [u8], at: usize, row: Row, alike: u64) -> usize {
-    if MOVED_TO <= alike && manner_of(alike) == TWICE {
-        return put_line(out, at, b"twice", x_of(0), row.y, x_of(row.goal), row.y);
+fn put_going(out: &mut [u8], at: usize, row: Row, alike: Alike) -> usize {
+    match alike {
+        Alike::Moved {
+            manner: Manner::Twice,
+            ..
+        } => put_line(out, at, b"twice", x_of(0), row.y, x_of(row.goal), row.y),
+        Alike::Moved { .. } => put_line(out, at, b"moved", x_of(0), row.y, x_of(row.goal), row.y),
+        _ => put_line(out, at, b"dropped", x_of(0), row.y, 385, row.y),
     }
-    if MOVED_TO <= alike {
-        return put_line(out, at, b"moved", x_of(0), row.y, x_of(row.goal), row.y);
-    }
-    put_line(out, at, b"dropped", x_of(0), row.y, 385, row.y)
 }
 
-fn put_sent(out: &mut [u8], at: usize, group: Group, first: Message, last: Message) -> usize {
-    let at = put_number(out, at, group.count, b" sent as ");
-    let at = put_number(out, at, first.fsn, b"");
-    let at = put_to(out, at, first.fsn, last.fsn);
-    if group.alike == TAKEN {
-        return put(out, at, b", taken: ");
+fn put_goal(out: &mut [u8], at: usize, group: Group) -> usize {
+    match group.alike {
+        Alike::Moved { link, manner } => {
+            let at = put_number(out, at, group.count, b" moved to link ");
+            let at = put_number(out, at, link, b"");
+            put_manner(out, at, manner)
+        }
+        Alike::Dropped { reason } => {
+            let at = put_number(out, at, group.count, b" dropped, ");
+            let at = put_reason(out, at, reason);
+            put(out, at, b": ")
+        }
+        _ => put_number(out, at, group.count, b" more, not drawn one by one: "),
     }
-    if group.alike == NOT_TAKEN {
-        return put(out, at, b", not taken: ");
-    }
-    put(out, at, b", not known whether taken: ")
 }
 
-fn put_gone(out: &mut [u8], at: usize, group: Group) -> usize {
-    if group.alike == MORE {
-        return put_number(out, at, group.count, b" more, not drawn one by one: ");
+fn put_manner(out: &mut [u8], at: usize, manner: Manner) -> usize {
+    match manner {
+        Manner::NotSent => put(out, at, b", not sent before: "),
+        Manner::Sent => put(out, at, b", sent before: "),
+        Manner::Twice => put(out, at, b", may arrive twice: "),
     }
-    if MOVED_TO <= group.alike {
-        let at = put_number(out, at, group.count, b" moved to link ");
-        let at = put_number(out, at, link_of(group.alike), b"");
-        return put_before(out, at, manner_of(group.alike));
-    }
-    let at = put_number(out, at, group.count, b" dropped, ");
-    let at = put_reason(out, at, group.alike % DROPPED_FOR);
-    put(out, at, b": ")
-}
-
-fn put_before(out: &mut [u8], at: usize, manner: u64) -> usize {
-    if manner == NOT_SENT {
-        return put(out, at, b", not sent before: ");
-    }
-    if manner == TWICE {
-        return put(out, at, b", may arrive twice: ");
-    }
-    put(out, at, b", sent before: ")
 }
 
 // What the first message is, and the last.
