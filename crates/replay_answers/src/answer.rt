@@ -2,11 +2,12 @@
 ghost use Rattle.std.specs.Prelude.{◌≡◌, []};
 ghost use Rattle.node.specs.View.{view_of};
 ghost use Rattle.text_pages.specs.Page.{page, puts};
-ghost use Rattle.fate_places.specs.Places.{held};
+ghost use Rattle.fate_places.specs.Places.{held_of};
 ghost use Rattle.fate_lines.specs.Lines.{fate_lines};
 ghost use Rattle.replay_fates.specs.Fates.{fates_of};
 ghost use Rattle.replay_answers.specs.Answers.{answered, shows_of, shows_for, list_lines, told_of, acknowledges_of, sender_of};
 
+use fate_places::Held;
 use node::ask::Question;
 use node::call::Event;
 use replay_fates::deciding::Told;
@@ -49,25 +50,19 @@ pub fn put_told(
     reports: &[u64],
     told: Told,
     links: &[u32; 256],
-    oldspans: &[u16; 70],
-    oldrings: &[u8; 8960],
-    oldrows: &[u64; 2048],
-    spans: &[u16; 70],
-    rings: &[u8; 8960],
-    rows: &[u64; 2048],
+    before: Held,
+    after: Held,
 ) -> usize
     ensures { page out.new result ≡
         puts (page out.old at)
         (answered number shows answer message.now sent.now
         (fate_lines number
-        (fates_of told links.now (held oldspans.now oldrings.now oldrows.now)
-        (held spans.now rings.now rows.now) reports.now))
+        (fates_of told links.now (held_of before.entry)
+        (held_of after.entry) reports.now))
         reports.now) }
 {
     let at = put_reply(out, at, number, shows, answer, message, sent);
-    let at = put_fates(
-        out, at, number, told, links, oldspans, oldrings, oldrows, spans, rings, rows, reports,
-    );
+    let at = put_fates(out, at, number, told, links, before, after, reports);
     let at = put_reports(out, at, number, reports, answer.reports);
     let octets = answer.octets;
     put_listed(out, at, number, shows, octets, sent)

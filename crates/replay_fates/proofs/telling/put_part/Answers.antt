@@ -5,7 +5,7 @@ use Prim.Native.Nat.{ℕ, ◌+◌, ◌-◌, min}
 use native.Mathlib.Omega.{arith}
 use Rattle.text_pages.specs.Page.{page}
 use Rattle.text_pages.proofs.Pages.{left_on, left_none}
-use Rattle.fate_places.specs.Places.{held, places}
+use Rattle.fate_places.specs.Places.{held_of, places}
 use Rattle.fate_lines.specs.Lines.{fate_lines}
 use Rattle.replay_fates.specs.Fates.{fates_at, fates_from, fates_in}
 use Rattle.replay_fates.proofs.Walking.{queues_on, queues_end}
@@ -18,8 +18,8 @@ pub loop-queue-preserved : goal.loop-queue-preserved
 loop-queue-preserved c =
     let a = c.args in
     let l = c.loop-queue in
-    let walked = held a.walkspans.now a.walkrings.now a.walkrows.now in
-    let after = held a.spans.now a.rings.now a.rows.now in
+    let walked = held_of a.walked in
+    let after = held_of a.after in
     let few : c.fewer-many.result ≡ min (places walked l.queue) l.left =
     c.fewer-many.ensures ∙ ap (λ (n : ℕ). min n l.left) c.places.ensures
     in
@@ -41,8 +41,8 @@ unfolding fates_in
 returns c =
     let a = c.args in
     let l = c.loop-queue in
-    let walked = held a.walkspans.now a.walkrings.now a.walkrows.now in
-    let after = held a.spans.now a.rings.now a.rows.now in
+    let walked = held_of a.walked in
+    let after = held_of a.after in
     left_none (page l.out l.at) (fate_lines a.number (fates_from a.part walked after a.reports.now a.count l.queue (33 - l.queue) l.left))
     (queues_end a.number a.part walked after a.reports.now a.count l.queue 33 l.left c.loop-queue-test.false)
     l.invariant.1
