@@ -86,21 +86,7 @@ pub fn told(event: Event, answer: Answer, next: u64) -> Told
 fn acknowledges(event: Event) -> bool
     ensures { result ≡ acknowledges_of (view_of event) }
 {
-    match event {
-        Event::IntoService(_) => false,
-        Event::Failure(_) => false,
-        Event::Send(_) => false,
-        Event::Acknowledgement(_, _) => true,
-        Event::Received(_, _) => false,
-        Event::FromHost => false,
-        Event::T1(_) => false,
-        Event::T2(_) => false,
-        Event::T3(_) => false,
-        Event::T4(_) => false,
-        Event::T6(_) => false,
-        Event::T8(_) => false,
-        Event::T10(_, _) => false,
-    }
+    matches!(event, Event::Acknowledgement(_, _))
 }
 
 // The link that a call sends on, 32 for none.
@@ -108,19 +94,8 @@ fn sender(event: Event) -> u8
     ensures { result ≡ sender_of (view_of event) }
 {
     match event {
-        Event::IntoService(_) => 32,
-        Event::Failure(_) => 32,
         Event::Send(link) => link,
-        Event::Acknowledgement(_, _) => 32,
-        Event::Received(_, _) => 32,
-        Event::FromHost => 32,
-        Event::T1(_) => 32,
-        Event::T2(_) => 32,
-        Event::T3(_) => 32,
-        Event::T4(_) => 32,
-        Event::T6(_) => 32,
-        Event::T8(_) => 32,
-        Event::T10(_, _) => 32,
+        _ => 32,
     }
 }
 
@@ -129,19 +104,9 @@ pub fn shown(event: Event) -> Shows
     ensures { result ≡ shows_of (view_of event) }
 {
     match event {
-        Event::IntoService(_) => Shows::Nothing,
-        Event::Failure(_) => Shows::Nothing,
         Event::Send(_) => Shows::Sent,
-        Event::Acknowledgement(_, _) => Shows::Nothing,
         Event::Received(_, _) => Shows::Delivered,
-        Event::FromHost => Shows::Nothing,
-        Event::T1(_) => Shows::Nothing,
-        Event::T2(_) => Shows::Nothing,
-        Event::T3(_) => Shows::Nothing,
-        Event::T4(_) => Shows::Nothing,
-        Event::T6(_) => Shows::Nothing,
-        Event::T8(_) => Shows::Nothing,
-        Event::T10(_, _) => Shows::Nothing,
+        _ => Shows::Nothing,
     }
 }
 
@@ -167,9 +132,7 @@ fn put_listed(
     ensures { page out.new result ≡ puts (page out.old at) (list_lines shows number octets sent.now) }
 {
     match shows {
-        Shows::Sent => at,
-        Shows::Delivered => at,
         Shows::Listed => put_routes(out, at, number, between(sent, 0, octets)),
-        Shows::Nothing => at,
+        _ => at,
     }
 }

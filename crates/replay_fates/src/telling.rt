@@ -1,5 +1,5 @@
 // The fates of a call on a page, queue by queue.
-ghost use Rattle.std.specs.Prelude.{◌≡◌, min};
+ghost use Rattle.std.specs.Prelude.{◌≡◌};
 ghost use Rattle.text_pages.specs.Page.{page, puts};
 ghost use Rattle.fate_places.specs.Places.{held_of};
 ghost use Rattle.fate_lines.specs.Lines.{fate_lines};
@@ -73,24 +73,15 @@ fn put_part(
         (held_of after.entry) reports.now count)) }
 {
     let mut at = at;
-    let mut queue = 0u8;
     let mut left = 256u16;
-    while queue < 33 {
-        let many = fewer(places(walked, queue), left);
+    for queue in 0..33u8 {
+        let many = places(walked, queue).min(left);
         at = put_queue(
             out, at, number, part, walked, after, reports, count, queue, many,
         );
         left -= many;
-        queue += 1;
     }
     at
-}
-
-// The fewer of two.
-fn fewer(one: u16, other: u16) -> u16
-    ensures { result ≡ min one other }
-{
-    if one < other { one } else { other }
 }
 
 // Of one queue, so many places from its first on.
@@ -113,12 +104,10 @@ fn put_queue(
         (held_of after.entry) reports.now count queue 0 many)) }
 {
     let mut at = at;
-    let mut place = 0u16;
-    while place < many {
+    for place in 0..many {
         let known = message_at(walked, queue, place);
         let to = whither(after, reports, count, queue, place, known.arrival);
         at = put_fate(out, at, number, fate_of(part, queue, known, to));
-        place += 1;
     }
     at
 }

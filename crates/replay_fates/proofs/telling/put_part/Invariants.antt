@@ -1,4 +1,4 @@
--- What is written and then the queues left make what all make. The measure is how many are left. Assumes nothing.
+-- What is written and then the queues left make what all make. Assumes nothing.
 use mathlib.Core.Path.{◌≡◌}
 use Prim.Native.Nat.{◌-◌, ◌≤◌}
 use Rattle.text_pages.specs.Page.{page, puts}
@@ -12,6 +12,3 @@ invariant-loop-queue l =
     (l.queue ≤ 33)
     × (puts (page l.out l.at) (fate_lines l.number (fates_from l.part (held_of l.walked) (held_of l.after) l.reports l.count l.queue (33 - l.queue) l.left))
     ≡ puts (page l.initial.out l.fn.at) (fate_lines l.number (fates_from l.part (held_of l.walked) (held_of l.after) l.reports l.count 0 33 256)))
-
-abbrev pub decreases-loop-queue : goal.decreases-loop-queue
-decreases-loop-queue l = 33 - l.queue

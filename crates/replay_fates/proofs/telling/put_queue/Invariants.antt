@@ -1,4 +1,4 @@
--- What is written and then the places left make what all make. The measure is how many are left. Assumes nothing.
+-- What is written and then the places left make what all make. Assumes nothing.
 use mathlib.Core.Path.{◌≡◌}
 use Prim.Native.Nat.{◌-◌, ◌≤◌}
 use Rattle.text_pages.specs.Page.{page, puts}
@@ -12,6 +12,3 @@ invariant-loop-place l =
     (l.place ≤ l.many)
     × (puts (page l.out l.at) (fate_lines l.number (fates_at l.part (held_of l.walked) (held_of l.after) l.reports l.count l.queue l.place (l.many - l.place)))
     ≡ puts (page l.initial.out l.fn.at) (fate_lines l.number (fates_at l.part (held_of l.walked) (held_of l.after) l.reports l.count l.queue 0 l.many)))
-
-abbrev pub decreases-loop-place : goal.decreases-loop-place
-decreases-loop-place l = l.many - l.place
