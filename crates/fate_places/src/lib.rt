@@ -38,13 +38,11 @@ fn stands(held: Held, queue: u8, arrival: u64) -> bool
     ensures { result ≡ Places.stands (held_of held.entry) queue arrival }
 {
     let many = places(held, queue);
-    let mut place = 0u16;
-    while place < many {
+    for place in 0..many {
         let known = message_at(held, queue, place);
         if known.arrival == arrival {
             return true;
         }
-        place += 1;
     }
     false
 }
@@ -67,12 +65,10 @@ fn stands_near(held: Held, queue: u8, place: u16, arrival: u64) -> bool
 fn queue_of(held: Held, arrival: u64) -> u8
     ensures { result ≡ Places.queue_with (held_of held.entry) arrival }
 {
-    let mut queue = 0u8;
-    while queue < 33 {
+    for queue in 0..33 {
         if stands(held, queue, arrival) {
             return queue;
         }
-        queue += 1;
     }
     33
 }
@@ -83,12 +79,10 @@ fn dropped(reports: &[u64], count: usize, arrival: u64) -> bool
 {
     let most = reports.len() / 2;
     let count = if count < most { count } else { most };
-    let mut k = 0;
-    while k < count {
+    for k in 0..count {
         if tells_drop(reports[2 * k], reports[2 * k + 1], arrival) {
             return true;
         }
-        k += 1;
     }
     false
 }

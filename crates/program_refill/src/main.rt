@@ -13,8 +13,7 @@ fn main(rt: HostRuntime) -> io::Result<()> {
     let mut octets = [0u8; 52416];
     queue_store::fresh::fresh(&mut spans, &mut rings);
     let mut arrival = 0;
-    let mut round = 1;
-    while round < 6 {
+    for round in 1..6 {
         arrival = show_round(
             &rt,
             round,
@@ -24,7 +23,6 @@ fn main(rt: HostRuntime) -> io::Result<()> {
             &mut rows,
             &mut octets,
         )?;
-        round += 1;
     }
     Ok(())
 }
@@ -60,8 +58,7 @@ fn fill_users(
     octets: &mut [u8; 52416],
 ) -> u64 {
     let mut arrival = first;
-    let mut tried = 0u64;
-    while tried < 300 {
+    for _ in 0..300 {
         let free = queue_rings::ring::take(spans, rings, 33);
         if !free.found {
             break;
@@ -78,7 +75,6 @@ fn fill_users(
         );
         queue_rings::ring::put(spans, rings, (arrival % 32) as u8, free.slot);
         arrival = wrapping_add_u64(arrival, 1);
-        tried += 1;
     }
     arrival
 }
@@ -91,8 +87,7 @@ fn fill_management(
     rows: &mut [u64; 2048],
 ) -> u64 {
     let mut arrival = first;
-    let mut tried = 0u64;
-    while tried < 300 {
+    for _ in 0..300 {
         let free = queue_rings::ring::take(spans, rings, 34);
         if !free.found {
             break;
@@ -108,7 +103,6 @@ fn fill_management(
         );
         queue_rings::ring::put(spans, rings, (arrival % 32) as u8, free.slot);
         arrival = wrapping_add_u64(arrival, 1);
-        tried += 1;
     }
     arrival
 }
@@ -121,10 +115,8 @@ fn size_of(arrival: u64) -> usize {
 // Octets that tell messages apart.
 fn message_of(arrival: u64) -> [u8; 273] {
     let mut message = [0u8; 273];
-    let mut i = 0;
-    while i < 273 {
-        message[i] = (wrapping_add_u64(arrival, i as u64) % 251) as u8;
-        i += 1;
+    for (i, octet) in message.iter_mut().enumerate() {
+        *octet = (wrapping_add_u64(arrival, i as u64) % 251) as u8;
     }
     message
 }
@@ -137,13 +129,11 @@ fn count_right(
     octets: &[u8; 52416],
 ) -> u64 {
     let mut right = 0;
-    let mut looked = 0u64;
-    while looked < 8192 {
+    for looked in 0u64..8192 {
         let held = queue_rings::ring::at(spans, rings, (looked % 32) as u8, (looked / 32) as u16);
         if held.found && is_right(rows, octets, held.slot) {
             right = wrapping_add_u64(right, 1);
         }
-        looked += 1;
     }
     right
 }
@@ -169,8 +159,7 @@ fn is_right(rows: &[u64; 2048], octets: &[u8; 52416], slot: u8) -> bool {
 
 // Every message of the links' rings is given up, and its slot is free again.
 fn empty_all(spans: &mut [u16; 70], rings: &mut [u8; 8960]) {
-    let mut tried = 0u64;
-    while tried < 8192 {
+    for tried in 0u64..8192 {
         let held = queue_rings::ring::take(spans, rings, (tried % 32) as u8);
         if held.found {
             queue_rings::ring::put(
@@ -180,7 +169,6 @@ fn empty_all(spans: &mut [u16; 70], rings: &mut [u8; 8960]) {
                 held.slot,
             );
         }
-        tried += 1;
     }
 }
 

@@ -1,7 +1,7 @@
 -- The turns of a loop that does one step so many times.
 -- Assumes nothing.
 use mathlib.Core.Path.{◌≡◌, refl, sym, ap, ◌∙◌}
-use Prim.Native.Nat.{ℕ, suc, ◌-◌, ◌≤◌, ◌<◌}
+use Prim.Native.Nat.{ℕ, suc, ◌+◌, ◌-◌, ◌≤◌, ◌<◌}
 use native.Mathlib.Omega.{arith}
 use Rattle.queue_heads.specs.Head.{repeat}
 
@@ -16,16 +16,17 @@ module _ {A : Type 0} (step : A → A) where
   unfolding repeat
   repeat_end state = refl
 
-  module _ (left : ℕ) (now whole : A) (inv : repeat step left now ≡ whole) where
+  -- after k turns of so many, what is left to do comes to the whole
+  module _ (many k : ℕ) (now whole : A) (inv : repeat step (many - k) now ≡ whole) where
     -- a turn: what is left after it comes to the same whole
-    pub turn_done : 0 < left → {next : A} → next ≡ step now → repeat step (left - 1) next ≡ whole
+    pub turn_done : k < many → {next : A} → next ≡ step now → repeat step (many - (k + 1)) next ≡ whole
     turn_done some stepped =
-        let one : left ≡ suc (left - 1) = omega arith in
-        let again : repeat step left now ≡ repeat step (suc (left - 1)) now = ap (λ (n : ℕ). repeat step n now) one in
-        ap (repeat step (left - 1)) stepped ∙ sym (repeat_turn (left - 1) now) ∙ sym again ∙ inv
+        let one : many - k ≡ suc (many - (k + 1)) = omega arith in
+        let again : repeat step (many - k) now ≡ repeat step (suc (many - (k + 1))) now = ap (λ (n : ℕ). repeat step n now) one in
+        ap (repeat step (many - (k + 1))) stepped ∙ sym (repeat_turn (many - (k + 1)) now) ∙ sym again ∙ inv
 
     -- the end: with none left the whole is reached
-    pub turns_done : left ≤ 0 → now ≡ whole
+    pub turns_done : many ≤ k → now ≡ whole
     turns_done none =
-        let last : left ≡ 0 = omega arith in
+        let last : many - k ≡ 0 = omega arith in
         sym (repeat_end now) ∙ sym (ap (λ (n : ℕ). repeat step n now) last) ∙ inv

@@ -78,10 +78,8 @@ pub fn move_all(
     ensures { state_after spans.new rings.new reports.new result ≡
         Move.moved_all (plan_of plan) links.now marks.now rows.now ring (state_before spans.old rings.old reports.old told) }
 {
-    let mut left = count(spans, ring);
     let mut reported = told;
-    while 0 < left {
-        left -= 1;
+    for _ in 0..count(spans, ring) {
         reported = move_one(
             plan, links, marks, spans, rings, rows, ring, reports, reported,
         );

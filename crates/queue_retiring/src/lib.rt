@@ -15,9 +15,7 @@ use reports::report;
 pub fn retire(spans: &mut [u16; 70], rings: &mut [u8; 8960], ring: u8, many: u8)
     ensures { queues_after spans.new rings.new ≡ Leave.retired ring many (queues_before spans.old rings.old) }
 {
-    let mut left = many;
-    while 0 < left {
-        left -= 1;
+    for _ in 0..many {
         free_head(spans, rings, ring);
     }
 }
@@ -57,10 +55,8 @@ pub fn drop_first(
 ) -> usize
     ensures { state_after spans.new rings.new reports.new result ≡ Leave.dropped rows.now ring reason many (state_before spans.old rings.old reports.old count) }
 {
-    let mut more = many;
     let mut told = count;
-    while 0 < more {
-        more -= 1;
+    for _dropped in 0..many {
         told = drop_head(spans, rings, rows, ring, reason, reports, told);
     }
     told

@@ -1,14 +1,15 @@
 -- What is written into a slot and copied from it, from what the code finds. Assumes nothing.
-use mathlib.Core.Path.{◌≡◌, sym, ◌∙◌}
+use mathlib.Core.Path.{◌≡◌, sym, ap, ◌∙◌}
 use mathlib.Core.Bool.{true, false}
-use mathlib.Core.List.{List}
-use Prim.Native.Nat.{ℕ, ◌+◌, ◌*◌, ◌≤◌, ◌<◌}
+use mathlib.Core.List.{List, ◌++◌, append_assoc}
+use Prim.Native.Nat.{ℕ, ◌+◌, ◌-◌, ◌*◌, ◌≤◌, ◌<◌}
 use native.Mathlib.Nat.{zero-add}
 use native.Mathlib.Omega.{arith}
 use lib.Dec.{ltb}
-use lib.ListN.{length, get_or}
-use lib.Seq.{sets, sets-eq}
+use lib.ListN.{length, get_or, take, drop, length-drop}
+use lib.Seq.{sets, sets-eq, drop-drop, ext_get_or, get_or-take, get_or-drop, length-take-le}
 use borrow.Author.Tests.{lt-ltb, le-ltb, le-leb, lt-leb}
+use borrow.Rule.Slice.PartMut.{put_mid}
 use Rattle.area_rows.specs.Rows.{word_at}
 use Rattle.area_slots.specs.SlotRows.{with_slot}
 use Rattle.queue_slots.specs.Message.{user_row, fits, user_rows, user_octets, octets_at, copies, copied_size, copied}
@@ -37,6 +38,13 @@ module _ (slot size : ℕ) where
   unfolding copies
   copies_short room h = simp (lt-leb size room h) (cond_same (fits slot size))
 
+-- words that are copied over the part of an area from a place on are set there
+pub copied_over : (area : List ℕ) (at : ℕ) (words part : List ℕ) → at + length words ≤ length area → part ≡ words
+    → put_mid at (at + length words - at) area part ≡ sets area at words
+copied_over area at words part h e =
+    let many : at + length words - at ≡ length words = omega arith in
+    simp (many, e, drop-drop, sets-eq words area at h, append_assoc)
+
 module _ (rows octets : List ℕ) (slot arrival point sls : ℕ) (message : List ℕ) where
   -- what doesn't fit isn't written
   pub user_none : fits slot (length message) ≡ false
@@ -64,6 +72,20 @@ module _ (octets : List ℕ) (slot size : ℕ) where
   unfolding octets_at
   octets_length = run_length (word_at 192 273 octets slot) 0 size
 
+  -- the octets of a slot are the part of all octets from its first on
+  pub octets_part : slot < 192 → 273 * slot + size ≤ length octets
+      → take (273 * slot + size - 273 * slot) (drop (273 * slot) octets) ≡ octets_at octets slot size
+  octets_part h k =
+      let from = 273 * slot in
+      let many : from + size - from ≡ size = omega arith in
+      let rest : size ≤ length (drop from octets) = omega (arith, length-drop from octets) in
+      let long : length (take size (drop from octets)) ≡ size = length-take-le size (drop from octets) rest in
+      ap (λ (n : ℕ). take n (drop from octets)) many
+      ∙ ext_get_or 0 (take size (drop from octets)) (octets_at octets slot size) (long ∙ sym octets_length)
+      (λ i l.
+      let within : i < size = omega (arith, long) in
+      get_or-take size (drop from octets) i 0 within ∙ get_or-drop from octets i 0 ∙ sym (octets_at_lem i h within))
+
   -- what can't be copied isn't
   pub copy_none : (out : List ℕ) → copies slot size (length out) ≡ false
       → (0 ≡ copied_size slot size (length out)) × (out ≡ copied octets slot size out)
@@ -72,10 +94,8 @@ module _ (octets : List ℕ) (slot size : ℕ) where
 
   -- and what can be is
   pub copy_all : (out : List ℕ) → fits slot size ≡ true → size ≤ length out
-      → (size ≡ copied_size slot size (length out)) × (sets out 0 (octets_at octets slot size) ≡ copied octets slot size out)
+      → (size ≡ copied_size slot size (length out)) × (octets_at octets slot size ++ drop size out ≡ copied octets slot size out)
   unfolding copies copied_size copied
   copy_all out h k =
       let room = le-leb size (length out) k in
-      let all = octets_length in
-      let set = sets-eq (octets_at octets slot size) out 0 (omega arith) in
-      (simp (h, room), simp (h, room) (set ∙ simp (zero-add, all)))
+      (simp (h, room), simp (h, room))

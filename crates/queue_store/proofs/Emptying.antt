@@ -1,25 +1,22 @@
--- An area being emptied word by word: how far it is, one word more, and all of it. Assumes nothing.
-use Rattle.std.proofs.Common.{◌≡◌, ℕ, ◌+◌, ◌<◌, ◌≤◌, List, length, take, set, sym, ap, ◌∙◌, zero-add, arith, take_all}
-use lib.Seq.{sets}
+-- An area whose words are all 0 is emptied. Assumes nothing.
+use Rattle.std.proofs.Common.{◌≡◌, ℕ, zero, suc, List, [], ◌∷◌, length, drop, replicate, refl, sym, ap, ◌∙◌, zero-add, arith, append-nil, drop_of_length-le}
+use Rattle.std.proofs.lemmas.List.{length-replicate}
+use lib.Seq.{sets-eq}
 use Rattle.queue_rings.specs.Run.{run}
 use Rattle.queue_store.specs.Fresh.{emptied}
-use Rattle.queue_rings.proofs.Runs.{run_length, run_at, sets_next}
+use Rattle.queue_rings.proofs.Runs.{run_length}
 
--- of so many words of an area the first `i` are 0, all else is as it was
-abbrev pub Emptying : ℕ → List ℕ → List ℕ → ℕ → Type 0
-Emptying words before area i = (i ≤ words) × (area ≡ sets before 0 (take i (run (λ k. 0) 0 words)))
+-- a run of 0 is 0 so many times
+zeros : (k n : ℕ) → run (λ i. 0) k n ≡ replicate n 0
+unfolding run
+zeros k zero = refl
+zeros k (suc n) = ap (λ (l : List ℕ). 0 ∷ l) (zeros (suc k) n)
 
-module _ (words : ℕ) (before area : List ℕ) (i : ℕ) (so_far : Emptying words before area i) where
-  pub one_more : i < words → Emptying words before (set area i 0) (i + 1)
-  one_more h =
-      let zeros : List ℕ = run (λ k. 0) 0 words in
-      let size : length zeros ≡ words = run_length (λ k. 0) 0 words in
-      let next = sets_next zeros before 0 i 0 (omega arith) (sym (run_at (λ k. 0) 0 words i h)) in
-      (omega arith, ap (λ (a : List ℕ). set a i 0) so_far.1 ∙ simp zero-add at next)
-
-  pub all_emptied : words ≤ i → area ≡ emptied before words
-  unfolding emptied
-  all_emptied h =
-      let zeros : List ℕ = run (λ k. 0) 0 words in
-      let size : length zeros ≡ words = run_length (λ k. 0) 0 words in
-      so_far.1 ∙ simp (take_all i zeros (omega arith))
+-- with 0 in each of its words an area is emptied
+pub all_emptied : (before : List ℕ) (words : ℕ) → length before ≡ words → replicate (length before) 0 ≡ emptied before words
+unfolding emptied
+all_emptied before words long =
+    let run_long : length (run (λ i. 0) 0 words) ≡ words = run_length (λ i. 0) 0 words in
+    let all = sets-eq (run (λ i. 0) 0 words) before 0 (omega arith) in
+    let none : drop words before ≡ [] = drop_of_length-le before {i = words} (omega arith) in
+    sym (all ∙ simp (zero-add, zeros 0 words, length-replicate, none, append-nil, long))

@@ -9,11 +9,7 @@ use constants::{FREE_MANAGEMENT, FREE_USER};
 fn empty(spans: &mut [u16; 70])
     ensures { spans.new ≡ Fresh.emptied spans.old 70 }
 {
-    let mut i = 0;
-    while i < 70 {
-        spans[i] = 0;
-        i += 1;
-    }
+    spans.fill(0);
 }
 
 // The places of a ring from its first on hold the slots from `first` on.
@@ -25,10 +21,8 @@ fn list(rings: &mut [u8; 8960], ring: u8, first: u8, size: u8)
         return;
     }
     let from = 256 * (ring as usize);
-    let mut i = 0;
-    while i < size {
-        rings[from + i as usize] = std::num::wrapping_add_u8(first, i);
-        i += 1;
+    for place in 0..size {
+        rings[from + place as usize] = std::num::wrapping_add_u8(first, place);
     }
 }
 

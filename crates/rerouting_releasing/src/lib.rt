@@ -55,10 +55,8 @@ pub fn release(
     ensures { state_after spans.new rings.new reports.new result ≡
         Release.released (plan_of plan) links.now marks.now rows.now point (state_before spans.old rings.old reports.old told) }
 {
-    let mut left = count(spans, HELD_APART);
     let mut reported = told;
-    while 0 < left {
-        left -= 1;
+    for _ in 0..count(spans, HELD_APART) {
         reported = release_one(
             plan, links, marks, spans, rings, rows, point, reports, reported,
         );

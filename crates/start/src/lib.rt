@@ -16,22 +16,14 @@ use queue_store::fresh::fresh;
 fn empty_links(links: &mut [u32; 256])
     ensures { links.new ≡ Start.fresh_links links.old }
 {
-    let mut i = 0;
-    while i < 256 {
-        links[i] = 0;
-        i += 1;
-    }
+    links.fill(0);
 }
 
 // No mark stands.
 fn empty_marks(marks: &mut [u32; 512])
     ensures { marks.new ≡ Start.fresh_marks marks.old }
 {
-    let mut i = 0;
-    while i < 512 {
-        marks[i] = 0;
-        i += 1;
-    }
+    marks.fill(0);
 }
 
 // What a configuration answers: fault 0, or the first faulty line and its first fault.
