@@ -20,16 +20,14 @@ loop-queue-preserved c =
     let l = c.loop-queue in
     let walked = held_of a.walked in
     let after = held_of a.after in
-    let few : c.fewer-many.result ≡ min (places walked l.queue) l.left =
-    c.fewer-many.ensures ∙ ap (λ (n : ℕ). min n l.left) c.places.ensures
-    in
+    let few : c.min-many.result ≡ min (places walked l.queue) l.left = omega (arith, c.places.ensures) in
     let rest : ℕ → List (List ℕ) =
     λ (n : ℕ). fate_lines a.number (fates_from a.part walked after a.reports.now a.count (l.queue + 1) (33 - (l.queue + 1)) (l.left - n))
     in (
       omega arith,
       left_on l.out l.at (fate_lines a.number (fates_from a.part walked after a.reports.now a.count l.queue (33 - l.queue) l.left))
-          (fate_lines a.number (fates_at a.part walked after a.reports.now a.count l.queue 0 c.fewer-many.result))
-          (rest c.fewer-many.result)
+          (fate_lines a.number (fates_at a.part walked after a.reports.now a.count l.queue 0 c.min-many.result))
+          (rest c.min-many.result)
           (queues_on a.number a.part walked after a.reports.now a.count l.queue 33 l.left c.loop-queue-test.true
           ∙ ap (λ (n : ℕ). fate_lines a.number (fates_at a.part walked after a.reports.now a.count l.queue 0 n) ++ rest n) (sym few))
           l.invariant.1
