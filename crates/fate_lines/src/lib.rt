@@ -90,32 +90,16 @@ fn put_queued(out: &mut [u8], at: usize, queue: u8, heading: u64) -> usize
 fn name(heading: u64) -> [u8; 3]
     ensures { result ≡ Lines.name_of heading }
 {
-    if heading == 0x11 {
-        return [67u8, 79u8, 79u8];
+    match heading {
+        0x11 => *b"COO",
+        0x21 => *b"COA",
+        0x51 => *b"CBD",
+        0x61 => *b"CBA",
+        0x12 => *b"ECO",
+        0x22 => *b"ECA",
+        0x14 => *b"TFP",
+        0x54 => *b"TFA",
+        0x15 => *b"RST",
+        _ => *b"???",
     }
-    if heading == 0x21 {
-        return [67u8, 79u8, 65u8];
-    }
-    if heading == 0x51 {
-        return [67u8, 66u8, 68u8];
-    }
-    if heading == 0x61 {
-        return [67u8, 66u8, 65u8];
-    }
-    if heading == 0x12 {
-        return [69u8, 67u8, 79u8];
-    }
-    if heading == 0x22 {
-        return [69u8, 67u8, 65u8];
-    }
-    if heading == 0x14 {
-        return [84u8, 70u8, 80u8];
-    }
-    if heading == 0x54 {
-        return [84u8, 70u8, 65u8];
-    }
-    if heading == 0x15 {
-        return [82u8, 83u8, 84u8];
-    }
-    [63u8, 63u8, 63u8]
 }

@@ -2,6 +2,7 @@
 use Rattle.std.specs.Prelude.{ℕ, zero, suc, ◌+◌, ◌*◌, ◌/◌, min, Bool, true, false, cond, ◌&&◌, List, eqb, ltb, length, get_or}
 use Rattle.area_slots.specs.declared.Slot.{Slot}
 use Rattle.area_slots.specs.SlotRows.{slot_at}
+use Rattle.fate_places.specs.declared.Held.{Held as Lent}
 use Rattle.queue_rings.specs.Ring.{count_of, at_of}
 use Rattle.reports.specs.Report.{pause}
 
@@ -13,6 +14,10 @@ pub record Held : Type 0 where
 
 abbrev pub held : List ℕ → List ℕ → List ℕ → Held
 held spans rings rows = record { spans = spans; rings = rings; rows = rows }
+
+-- those that are lent to be read
+abbrev pub held_of : Lent → Held
+held_of lent = held lent.spans.now lent.rings.now lent.rows.now
 
 -- the first of so many places from one on that passes a test, told by its place; with none, what is told then
 unfoldable pub seek : {A : Type 0} → (ℕ → Bool) → (ℕ → A) → A → ℕ → ℕ → A

@@ -3,47 +3,43 @@
 
 ghost use Rattle.std.specs.Prelude.{◌≡◌, ◌&&◌, eqb, ltb};
 ghost use Rattle.fate_places.specs.Places as Places;
-ghost use Rattle.fate_places.specs.Places.{held};
+ghost use Rattle.fate_places.specs.Places.{held_of};
 
 use area_slots::{Slot, load_slot};
 use queue_rings::ring::{at, count};
 
+// The queues of a node, and what is known of the messages in them.
+#[derive(Clone, Copy)]
+pub struct Held<'a> {
+    pub spans: &'a [u16; 70],
+    pub rings: &'a [u8; 8960],
+    pub rows: &'a [u64; 2048],
+}
+
 // How many places of a queue there are.
-pub fn places(spans: &[u16; 70], rings: &[u8; 8960], rows: &[u64; 2048], queue: u8) -> u16
-    ensures { result ≡ Places.places (held spans.now rings.now rows.now) queue }
+pub fn places(held: Held, queue: u8) -> u16
+    ensures { result ≡ Places.places (held_of held.entry) queue }
 {
-    let counted = count(spans, queue);
+    let counted = count(held.spans, queue);
     if counted < 256 { counted } else { 256 }
 }
 
 // The message at a place of a queue.
-pub fn message_at(
-    spans: &[u16; 70],
-    rings: &[u8; 8960],
-    rows: &[u64; 2048],
-    queue: u8,
-    place: u16,
-) -> Slot
-    ensures { result ≡ Places.message_at (held spans.now rings.now rows.now) queue place }
+pub fn message_at(held: Held, queue: u8, place: u16) -> Slot
+    ensures { result ≡ Places.message_at (held_of held.entry) queue place }
 {
-    let taken = at(spans, rings, queue, place);
+    let taken = at(held.spans, held.rings, queue, place);
     let slot = taken.slot;
-    load_slot(rows, slot)
+    load_slot(held.rows, slot)
 }
 
 // Whether a message stands in a queue.
-fn stands(
-    spans: &[u16; 70],
-    rings: &[u8; 8960],
-    rows: &[u64; 2048],
-    queue: u8,
-    arrival: u64,
-) -> bool
-    ensures { result ≡ Places.stands (held spans.now rings.now rows.now) queue arrival }
+fn stands(held: Held, queue: u8, arrival: u64) -> bool
+    ensures { result ≡ Places.stands (held_of held.entry) queue arrival }
 {
-    let many = places(spans, rings, rows, queue);
+    let many = places(held, queue);
     for place in 0..many {
-        let known = message_at(spans, rings, rows, queue, place);
+        let known = message_at(held, queue, place);
         if known.arrival == arrival {
             return true;
         }
@@ -52,32 +48,25 @@ fn stands(
 }
 
 // The same, where a place is known at which it may well stand.
-fn stands_near(
-    spans: &[u16; 70],
-    rings: &[u8; 8960],
-    rows: &[u64; 2048],
-    queue: u8,
-    place: u16,
-    arrival: u64,
-) -> bool
-    ensures { result ≡ Places.stands (held spans.now rings.now rows.now) queue arrival }
+fn stands_near(held: Held, queue: u8, place: u16, arrival: u64) -> bool
+    ensures { result ≡ Places.stands (held_of held.entry) queue arrival }
 {
-    let many = places(spans, rings, rows, queue);
+    let many = places(held, queue);
     if place < many {
-        let known = message_at(spans, rings, rows, queue, place);
+        let known = message_at(held, queue, place);
         if known.arrival == arrival {
             return true;
         }
     }
-    stands(spans, rings, rows, queue, arrival)
+    stands(held, queue, arrival)
 }
 
 // The queue that a message stands in, 33 for none.
-fn queue_of(spans: &[u16; 70], rings: &[u8; 8960], rows: &[u64; 2048], arrival: u64) -> u8
-    ensures { result ≡ Places.queue_with (held spans.now rings.now rows.now) arrival }
+fn queue_of(held: Held, arrival: u64) -> u8
+    ensures { result ≡ Places.queue_with (held_of held.entry) arrival }
 {
     for queue in 0..33 {
-        if stands(spans, rings, rows, queue, arrival) {
+        if stands(held, queue, arrival) {
             return queue;
         }
     }
@@ -88,8 +77,8 @@ fn queue_of(spans: &[u16; 70], rings: &[u8; 8960], rows: &[u64; 2048], arrival: 
 fn dropped(reports: &[u64], count: usize, arrival: u64) -> bool
     ensures { result ≡ Places.dropped reports.now count arrival }
 {
-    let held = reports.len() / 2;
-    let count = if count < held { count } else { held };
+    let most = reports.len() / 2;
+    let count = if count < most { count } else { most };
     for k in 0..count {
         if tells_drop(reports[2 * k], reports[2 * k + 1], arrival) {
             return true;
@@ -107,23 +96,14 @@ fn tells_drop(kind: u64, about: u64, arrival: u64) -> bool
 
 // Where a message is that stood in a queue, at a place: 34 where it stays in it, another queue, 35 where it is reported dropped, else 33.
 #[tactic(auto, unfolding(crate::specs::Places::whither))]
-pub fn whither(
-    spans: &[u16; 70],
-    rings: &[u8; 8960],
-    rows: &[u64; 2048],
-    reports: &[u64],
-    count: usize,
-    queue: u8,
-    place: u16,
-    arrival: u64,
-) -> u8
+pub fn whither(held: Held, reports: &[u64], count: usize, queue: u8, place: u16, arrival: u64) -> u8
     ensures { result ≡
-        Places.whither (held spans.now rings.now rows.now) reports.now count queue arrival }
+        Places.whither (held_of held.entry) reports.now count queue arrival }
 {
-    if stands_near(spans, rings, rows, queue, place, arrival) {
+    if stands_near(held, queue, place, arrival) {
         return 34;
     }
-    let other = queue_of(spans, rings, rows, arrival);
+    let other = queue_of(held, arrival);
     if other < 33 {
         return other;
     }

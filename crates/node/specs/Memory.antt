@@ -1,7 +1,8 @@
 -- Everything that a call can change: the areas, the octets of user messages, and the lent output.
 use Rattle.std.specs.Prelude.{ℕ, ◌≡◌, List}
 use Rattle.replies.specs.declared.Answer.{Answer}
-use Rattle.replies.specs.Areas.{Areas, Outcome, before, after}
+use Rattle.replies.specs.Areas.{Areas, Outcome, areas, before, after}
+use Rattle.areas.specs.declared.Areas.{Areas as Lent}
 
 pub record Memory : Type 0 where
   pub areas : Areas
@@ -19,6 +20,14 @@ memory_before links marks spans rings rows arrivals reports octets out =
 abbrev pub memory_after : List ℕ → List ℕ → List ℕ → List ℕ → List ℕ → List ℕ → List ℕ → List ℕ → List ℕ → Memory
 memory_after links marks spans rings rows arrivals reports octets out =
     memory (after links marks spans rings rows arrivals reports) octets out
+
+-- the memory of the areas that are lent together, with the reports and the output of a call
+abbrev pub memory_of : Lent → List ℕ → List ℕ → Memory
+memory_of lent reports out =
+    memory
+    (areas lent.links.now lent.marks.now lent.spans.now lent.rings.now lent.rows.now lent.arrivals.now reports)
+    lent.octets.now
+    out
 
 -- what a call answers, and the memory after it
 pub record Result : Type 0 where

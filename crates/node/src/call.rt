@@ -1,9 +1,11 @@
 // The single entry: every event of the node.
 ghost use Rattle.plan_words.specs.Words.{plan_of};
-ghost use Rattle.node.specs.Memory.{memory_before, memory_after, Gives};
+ghost use Rattle.areas.specs.Lent.{Stays};
+ghost use Rattle.node.specs.Memory.{memory_of, Gives};
 ghost use Rattle.node.specs.Call.{call_of};
 
 use acknowledging::acknowledge;
+use areas::Areas;
 use changeback::into_service;
 use changeback_waiting::expire_wait;
 use changeover::fail;
@@ -40,22 +42,23 @@ pub enum Event {
 // One call of the node: the message is that received or handed over, the output that of a send.
 pub fn call(
     plan: &[u16; 1024],
-    links: &mut [u32; 256],
-    marks: &mut [u32; 512],
-    spans: &mut [u16; 70],
-    rings: &mut [u8; 8960],
-    rows: &mut [u64; 2048],
-    octets: &mut [u8; 52416],
-    arrivals: &mut [u64; 1],
+    areas: &mut Areas,
     event: Event,
     message: &[u8],
     out: &mut [u8],
     reports: &mut [u64],
 ) -> Answer
-    ensures { Gives
-        (call_of (plan_of plan) event message.now (memory_before links.old marks.old spans.old rings.old rows.old arrivals.old reports.old octets.old out.old)) result
-        (memory_after links.new marks.new spans.new rings.new rows.new arrivals.new reports.new octets.new out.new) }
+    ensures stays { Stays areas.old areas.new }
+    ensures gives { Gives (call_of (plan_of plan) event message.now (memory_of areas.old reports.old out.old)) result
+        (memory_of areas.new reports.new out.new) }
 {
+    let links = &mut *areas.links;
+    let marks = &mut *areas.marks;
+    let spans = &mut *areas.spans;
+    let rings = &mut *areas.rings;
+    let rows = &mut *areas.rows;
+    let octets = &mut *areas.octets;
+    let arrivals = &mut *areas.arrivals;
     match event {
         Event::IntoService(link) => into_service(
             plan, links, marks, spans, rings, rows, arrivals, link, reports,

@@ -2,11 +2,12 @@
 ghost use Rattle.std.specs.Prelude.{◌≡◌, []};
 ghost use Rattle.node.specs.View.{view_of};
 ghost use Rattle.text_pages.specs.Page.{page, puts};
-ghost use Rattle.fate_places.specs.Places.{held};
+ghost use Rattle.fate_places.specs.Places.{held_of};
 ghost use Rattle.fate_lines.specs.Lines.{fate_lines};
 ghost use Rattle.replay_fates.specs.Fates.{fates_of};
 ghost use Rattle.replay_answers.specs.Answers.{answered, shows_of, shows_for, list_lines, told_of, acknowledges_of, sender_of};
 
+use fate_places::Held;
 use node::ask::Question;
 use node::call::Event;
 use replay_fates::deciding::Told;
@@ -49,25 +50,19 @@ pub fn put_told(
     reports: &[u64],
     told: Told,
     links: &[u32; 256],
-    oldspans: &[u16; 70],
-    oldrings: &[u8; 8960],
-    oldrows: &[u64; 2048],
-    spans: &[u16; 70],
-    rings: &[u8; 8960],
-    rows: &[u64; 2048],
+    before: Held,
+    after: Held,
 ) -> usize
     ensures { page out.new result ≡
         puts (page out.old at)
         (answered number shows answer message.now sent.now
         (fate_lines number
-        (fates_of told links.now (held oldspans.now oldrings.now oldrows.now)
-        (held spans.now rings.now rows.now) reports.now))
+        (fates_of told links.now (held_of before.entry)
+        (held_of after.entry) reports.now))
         reports.now) }
 {
     let at = put_reply(out, at, number, shows, answer, message, sent);
-    let at = put_fates(
-        out, at, number, told, links, oldspans, oldrings, oldrows, spans, rings, rows, reports,
-    );
+    let at = put_fates(out, at, number, told, links, before, after, reports);
     let at = put_reports(out, at, number, reports, answer.reports);
     let octets = answer.octets;
     put_listed(out, at, number, shows, octets, sent)
@@ -91,21 +86,7 @@ pub fn told(event: Event, answer: Answer, next: u64) -> Told
 fn acknowledges(event: Event) -> bool
     ensures { result ≡ acknowledges_of (view_of event) }
 {
-    match event {
-        Event::IntoService(_) => false,
-        Event::Failure(_) => false,
-        Event::Send(_) => false,
-        Event::Acknowledgement(_, _) => true,
-        Event::Received(_, _) => false,
-        Event::FromHost => false,
-        Event::T1(_) => false,
-        Event::T2(_) => false,
-        Event::T3(_) => false,
-        Event::T4(_) => false,
-        Event::T6(_) => false,
-        Event::T8(_) => false,
-        Event::T10(_, _) => false,
-    }
+    matches!(event, Event::Acknowledgement(_, _))
 }
 
 // The link that a call sends on, 32 for none.
@@ -113,19 +94,8 @@ fn sender(event: Event) -> u8
     ensures { result ≡ sender_of (view_of event) }
 {
     match event {
-        Event::IntoService(_) => 32,
-        Event::Failure(_) => 32,
         Event::Send(link) => link,
-        Event::Acknowledgement(_, _) => 32,
-        Event::Received(_, _) => 32,
-        Event::FromHost => 32,
-        Event::T1(_) => 32,
-        Event::T2(_) => 32,
-        Event::T3(_) => 32,
-        Event::T4(_) => 32,
-        Event::T6(_) => 32,
-        Event::T8(_) => 32,
-        Event::T10(_, _) => 32,
+        _ => 32,
     }
 }
 
@@ -134,19 +104,9 @@ pub fn shown(event: Event) -> Shows
     ensures { result ≡ shows_of (view_of event) }
 {
     match event {
-        Event::IntoService(_) => Shows::Nothing,
-        Event::Failure(_) => Shows::Nothing,
         Event::Send(_) => Shows::Sent,
-        Event::Acknowledgement(_, _) => Shows::Nothing,
         Event::Received(_, _) => Shows::Delivered,
-        Event::FromHost => Shows::Nothing,
-        Event::T1(_) => Shows::Nothing,
-        Event::T2(_) => Shows::Nothing,
-        Event::T3(_) => Shows::Nothing,
-        Event::T4(_) => Shows::Nothing,
-        Event::T6(_) => Shows::Nothing,
-        Event::T8(_) => Shows::Nothing,
-        Event::T10(_, _) => Shows::Nothing,
+        _ => Shows::Nothing,
     }
 }
 
@@ -172,9 +132,7 @@ fn put_listed(
     ensures { page out.new result ≡ puts (page out.old at) (list_lines shows number octets sent.now) }
 {
     match shows {
-        Shows::Sent => at,
-        Shows::Delivered => at,
         Shows::Listed => put_routes(out, at, number, between(sent, 0, octets)),
-        Shows::Nothing => at,
+        _ => at,
     }
 }

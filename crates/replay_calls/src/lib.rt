@@ -3,7 +3,8 @@
 
 ghost use Rattle.plan_words.specs.Words.{plan_of};
 ghost use Rattle.std.specs.Prelude.{◌≡◌, []};
-ghost use Rattle.node.specs.Memory.{memory_before, memory_after};
+ghost use Rattle.areas.specs.Lent.{Stays};
+ghost use Rattle.node.specs.Memory.{memory_of};
 ghost use Rattle.node.specs.Call.{call_of};
 ghost use Rattle.node.specs.Ask.{answer_to, written_for};
 ghost use Rattle.text_pages.specs.Page.{page, puts};
@@ -11,6 +12,8 @@ ghost use Rattle.replay_answers.specs.Answers.{shows_for};
 ghost use Rattle.replay_answers.specs.Shown as Shown;
 ghost use Rattle.replay_calls.specs.Called.{fated_lines, called_lines};
 
+use areas::Areas;
+use fate_places::Held;
 use node::ask::{Question, ask};
 use node::call::{Event, call};
 use replay_answers::answer::{put_told, shown, shown_for, told};
@@ -19,13 +22,7 @@ use replay_answers::view::{View, put_shown, tells};
 // A call, and what is shown of its answer, on the page.
 pub fn put_called(
     plan: &[u16; 1024],
-    links: &mut [u32; 256],
-    marks: &mut [u32; 512],
-    spans: &mut [u16; 70],
-    rings: &mut [u8; 8960],
-    rows: &mut [u64; 2048],
-    octets: &mut [u8; 52416],
-    arrivals: &mut [u64; 1],
+    areas: &mut Areas,
     event: Event,
     message: &[u8],
     view: View,
@@ -35,21 +32,17 @@ pub fn put_called(
     out: &mut [u8],
     at: usize,
 ) -> usize
+    ensures stays { Stays areas.old areas.new }
     ensures result_after { page out.new result ≡
         puts (page out.old at)
-        (called_lines (plan_of plan) view number event message.now (memory_before links.old marks.old spans.old rings.old rows.old arrivals.old reports.old octets.old sent.old)) }
-    ensures sent_value { memory_after links.new marks.new spans.new rings.new rows.new arrivals.new reports.new octets.new sent.new ≡
-        (call_of (plan_of plan) event message.now (memory_before links.old marks.old spans.old rings.old rows.old arrivals.old reports.old octets.old sent.old)).after }
+        (called_lines (plan_of plan) view number event message.now (memory_of areas.old reports.old sent.old)) }
+    ensures sent_value { memory_of areas.new reports.new sent.new ≡
+        (call_of (plan_of plan) event message.now (memory_of areas.old reports.old sent.old)).after }
 {
     if tells(view, number) {
-        return put_fated(
-            plan, links, marks, spans, rings, rows, octets, arrivals, event, message, number, sent,
-            reports, out, at,
-        );
+        return put_fated(plan, areas, event, message, number, sent, reports, out, at);
     }
-    let answer = call(
-        plan, links, marks, spans, rings, rows, octets, arrivals, event, message, sent, reports,
-    );
+    let answer = call(plan, areas, event, message, sent, reports);
     put_shown(
         out,
         at,
@@ -66,13 +59,7 @@ pub fn put_called(
 // A call and all that is written of it, on the page, with its fates: for them its queues are kept as they were before it.
 fn put_fated(
     plan: &[u16; 1024],
-    links: &mut [u32; 256],
-    marks: &mut [u32; 512],
-    spans: &mut [u16; 70],
-    rings: &mut [u8; 8960],
-    rows: &mut [u64; 2048],
-    octets: &mut [u8; 52416],
-    arrivals: &mut [u64; 1],
+    areas: &mut Areas,
     event: Event,
     message: &[u8],
     number: u64,
@@ -81,20 +68,29 @@ fn put_fated(
     out: &mut [u8],
     at: usize,
 ) -> usize
+    ensures stays { Stays areas.old areas.new }
     ensures result_after { page out.new result ≡
         puts (page out.old at)
-        (fated_lines (plan_of plan) number event message.now (memory_before links.old marks.old spans.old rings.old rows.old arrivals.old reports.old octets.old sent.old)) }
-    ensures sent_value { memory_after links.new marks.new spans.new rings.new rows.new arrivals.new reports.new octets.new sent.new ≡
-        (call_of (plan_of plan) event message.now (memory_before links.old marks.old spans.old rings.old rows.old arrivals.old reports.old octets.old sent.old)).after }
+        (fated_lines (plan_of plan) number event message.now (memory_of areas.old reports.old sent.old)) }
+    ensures sent_value { memory_of areas.new reports.new sent.new ≡
+        (call_of (plan_of plan) event message.now (memory_of areas.old reports.old sent.old)).after }
 {
-    let oldspans = *spans;
-    let oldrings = *rings;
-    let oldrows = *rows;
-    let next = arrivals[0];
-    let answer = call(
-        plan, links, marks, spans, rings, rows, octets, arrivals, event, message, sent, reports,
-    );
+    let spans = *areas.spans;
+    let rings = *areas.rings;
+    let rows = *areas.rows;
+    let next = areas.arrivals[0];
+    let answer = call(plan, areas, event, message, sent, reports);
     let told = told(event, answer, next);
+    let before = Held {
+        spans: &spans,
+        rings: &rings,
+        rows: &rows,
+    };
+    let after = Held {
+        spans: areas.spans,
+        rings: areas.rings,
+        rows: areas.rows,
+    };
     put_told(
         out,
         at,
@@ -105,13 +101,9 @@ fn put_fated(
         sent,
         reports,
         told,
-        links,
-        &oldspans,
-        &oldrings,
-        &oldrows,
-        spans,
-        rings,
-        rows,
+        areas.links,
+        before,
+        after,
     )
 }
 

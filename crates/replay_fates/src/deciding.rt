@@ -1,12 +1,12 @@
 // What became of a message, by where it is after a call.
 ghost use Rattle.std.specs.Prelude.{◌≡◌};
-ghost use Rattle.fate_places.specs.Places.{held};
+ghost use Rattle.fate_places.specs.Places.{held_of};
 ghost use Rattle.replay_fates.specs.Fates as Fates;
 
 use area_links::load_link;
 use area_slots::Slot;
 use fate_lines::Fate;
-use fate_places::message_at;
+use fate_places::{Held, message_at};
 
 // The parts of what is told of a call: the messages from a number on, those that it takes out of the queues, and those that it moves.
 #[derive(Clone, Copy)]
@@ -62,21 +62,15 @@ pub fn fate_of(part: Part, queue: u8, known: Slot, to: u8) -> Fate
 
 // The message that leaves.
 #[tactic(auto, unfolding(crate::specs::Fates::sent_fate))]
-pub fn sent_fate(
-    told: Told,
-    links: &[u32; 256],
-    spans: &[u16; 70],
-    rings: &[u8; 8960],
-    rows: &[u64; 2048],
-) -> Fate
-    ensures { result ≡ Fates.sent_fate told links.now (held spans.now rings.now rows.now) }
+pub fn sent_fate(told: Told, links: &[u32; 256], held: Held) -> Fate
+    ensures { result ≡ Fates.sent_fate told links.now (held_of held.entry) }
 {
     if 32 <= told.sender {
         return Fate::Unchanged;
     }
     let known = load_link(links, told.sender);
     let place = if known.sent == 0 { 0 } else { known.sent - 1 };
-    let message = message_at(spans, rings, rows, told.sender, place as u16);
+    let message = message_at(held, told.sender, place as u16);
     Fate::Sent(message.arrival, told.sender, told.fsn)
 }
 

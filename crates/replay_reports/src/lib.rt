@@ -13,12 +13,10 @@ pub fn put_reports(out: &mut [u8], at: usize, number: u64, reports: &[u64], coun
     ensures { page out.new result ≡ puts (page out.old at) (Reported.all_reported number reports.now count) }
 {
     let held = reports.len() / 2;
-    let count = if count < held { count } else { held };
+    let count = count.min(held);
     let mut at = at;
-    let mut k = 0;
-    while k < count {
+    for k in 0..count {
         at = put_report(out, at, number, reports[2 * k], reports[2 * k + 1]);
-        k += 1;
     }
     at
 }

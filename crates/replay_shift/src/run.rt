@@ -2,9 +2,11 @@
 ghost use Rattle.plan_words.specs.Words.{plan_of};
 ghost use Rattle.std.specs.Prelude.{◌≡◌, ◌≤◌, ◌&&◌, length, drop, ◌==◌, nat_le};
 ghost use Rattle.std.proofs.Math.Seq.{slice};
-ghost use Rattle.node.specs.Memory.{memory_before, memory_after};
+ghost use Rattle.areas.specs.Lent.{Stays};
+ghost use Rattle.node.specs.Memory.{memory_of};
 ghost use Rattle.replay_shift.specs.Shift.{ran_from, ran_line, desk_at, place_at, page_with};
 
+use areas::Areas;
 use record_reading::{Reading, read_line};
 pub use replay_answers::view::View;
 use replay_calls::{put_asked, put_called};
@@ -26,13 +28,7 @@ pub struct Place {
 // then the longest answer. With areas of other lengths nothing is run.
 pub fn run_lines(
     plan: &[u16; 1024],
-    links: &mut [u32; 256],
-    marks: &mut [u32; 512],
-    spans: &mut [u16; 70],
-    rings: &mut [u8; 8960],
-    rows: &mut [u64; 2048],
-    octets: &mut [u8; 52416],
-    arrivals: &mut [u64; 1],
+    areas: &mut Areas,
     text: &[u8],
     from: Place,
     view: View,
@@ -41,16 +37,17 @@ pub fn run_lines(
     reports: &mut [u64],
     out: &mut [u8],
 ) -> Place
+    ensures stays { Stays areas.old areas.new }
     ensures value { result ≡
         place_at from out.old
-        (ran_from (plan_of plan) view text.now from (memory_before links.old marks.old spans.old rings.old rows.old arrivals.old reports.old octets.old sent.old) message.old out.old) }
+        (ran_from (plan_of plan) view text.now from (memory_of areas.old reports.old sent.old) message.old out.old) }
     ensures out_after { out.new ≡
-        page_with (ran_from (plan_of plan) view text.now from (memory_before links.old marks.old spans.old rings.old rows.old arrivals.old reports.old octets.old sent.old) message.old out.old)
+        page_with (ran_from (plan_of plan) view text.now from (memory_of areas.old reports.old sent.old) message.old out.old)
         out.old }
-    ensures sent_value { memory_after links.new marks.new spans.new rings.new rows.new arrivals.new reports.new octets.new sent.new ≡
-        (ran_from (plan_of plan) view text.now from (memory_before links.old marks.old spans.old rings.old rows.old arrivals.old reports.old octets.old sent.old) message.old out.old).memory }
+    ensures sent_value { memory_of areas.new reports.new sent.new ≡
+        (ran_from (plan_of plan) view text.now from (memory_of areas.old reports.old sent.old) message.old out.old).memory }
     ensures message_after { message.new ≡
-        (ran_from (plan_of plan) view text.now from (memory_before links.old marks.old spans.old rings.old rows.old arrivals.old reports.old octets.old sent.old) message.old out.old).message }
+        (ran_from (plan_of plan) view text.now from (memory_of areas.old reports.old sent.old) message.old out.old).message }
 {
     if !fit(message.len(), sent.len(), reports.len(), out.len()) {
         return from;
@@ -63,8 +60,7 @@ pub fn run_lines(
             break;
         }
         place = run_line(
-            plan, links, marks, spans, rings, rows, octets, arrivals, text, at, part, place, view,
-            message, sent, reports, out,
+            plan, areas, text, at, part, place, view, message, sent, reports, out,
         );
     }
     place
@@ -87,13 +83,7 @@ fn fit(message: usize, sent: usize, reports: usize, out: usize) -> bool
 // One line: read, called or asked, answered.
 fn run_line(
     plan: &[u16; 1024],
-    links: &mut [u32; 256],
-    marks: &mut [u32; 512],
-    spans: &mut [u16; 70],
-    rings: &mut [u8; 8960],
-    rows: &mut [u64; 2048],
-    octets: &mut [u8; 52416],
-    arrivals: &mut [u64; 1],
+    areas: &mut Areas,
     text: &[u8],
     at: usize,
     part: Part,
@@ -109,9 +99,10 @@ fn run_line(
     requires sent_len { length sent.old ≡ 4096 }
     requires reports_len { length reports.old ≡ 1024 }
     requires out_len { length out.old ≡ 262144 }
-    ensures result_after { desk_at (memory_after links.new marks.new spans.new rings.new rows.new arrivals.new reports.new octets.new sent.new) message.new out.new result ≡
+    ensures stays { Stays areas.old areas.new }
+    ensures result_after { desk_at (memory_of areas.new reports.new sent.new) message.new out.new result ≡
         ran_line (plan_of plan) view (slice at part.end text.now) part.next
-        (desk_at (memory_before links.old marks.old spans.old rings.old rows.old arrivals.old reports.old octets.old sent.old) message.old out.old place) }
+        (desk_at (memory_of areas.old reports.old sent.old) message.old out.old place) }
     ensures pending_bound_2 { result.pending ≤ 262144 }
     ensures out_unchanged { drop result.pending out.new ≡ drop result.pending out.old }
 {
@@ -122,13 +113,7 @@ fn run_line(
             let octets_of = between(message, 0, said.octets);
             let pending = put_called(
                 plan,
-                links,
-                marks,
-                spans,
-                rings,
-                rows,
-                octets,
-                arrivals,
+                areas,
                 event,
                 octets_of,
                 view,
@@ -150,8 +135,8 @@ fn run_line(
             number: wrapping_add_u64(number, 1),
             pending: put_asked(
                 plan,
-                links,
-                marks,
+                areas.links,
+                areas.marks,
                 question,
                 view,
                 number,

@@ -1,6 +1,7 @@
 // The lines of a record, run as programs run them: from the first on, with areas of their own for what a call reads and writes.
 #![tactic(auto)]
 
+use areas::Areas;
 use replay_shift::run::{Place, View, run_lines};
 
 // Before the first line of a record.
@@ -31,8 +32,7 @@ pub fn run_text(
     let mut message = [0u8; 1024];
     let mut sent = [0u8; 4096];
     let mut reports = [0u64; 1024];
-    run_lines(
-        plan,
+    let mut areas = Areas {
         links,
         marks,
         spans,
@@ -40,6 +40,10 @@ pub fn run_text(
         rows,
         octets,
         arrivals,
+    };
+    run_lines(
+        plan,
+        &mut areas,
         text,
         from,
         view,

@@ -11,7 +11,7 @@ use Rattle.fate_places.proofs.dropped.Goals as goal
 pub loop-k-init : goal.loop-k-init
 loop-k-init c =
     let a = c.args in
-    let few : c.if-count-held.count ≡ min a.count (length a.reports.now / 2) = omega arith in
+    let few : c.if-count-most.count ≡ min a.count (length a.reports.now / 2) = omega arith in
     (few, sought_none _ _ _ _)
 
 pub returns-then-tells_drop : goal.returns-then-tells_drop

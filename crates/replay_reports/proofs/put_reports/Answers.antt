@@ -14,8 +14,8 @@ use Rattle.replay_reports.proofs.put_reports.Goals as goal
 pub loop-k-init : goal.loop-k-init
 loop-k-init c =
     let a = c.args in
-    let few : c.if-count-held.count ≡ min a.count (length a.reports.now / 2) = omega arith in
-    (omega arith, few, ap (λ (n : ℕ). puts (page a.out.now a.at) (reported_from a.number a.reports.now 0 n)) (sub-zero c.if-count-held.count))
+    let few : c.min-count.result ≡ min a.count (length a.reports.now / 2) = omega arith in
+    (omega arith, few, ap (λ (n : ℕ). puts (page a.out.now a.at) (reported_from a.number a.reports.now 0 n)) (sub-zero c.min-count.result))
 
 pub loop-k-preserved : goal.loop-k-preserved
 loop-k-preserved c =

@@ -1,5 +1,4 @@
 -- `replay_reports::put_reports` meets its contract. The loop's invariant: what is written and then the records left make what all make.
--- The measure is how many are left.
 -- Assumes nothing.
 use mathlib.Core.Path.{◌≡◌}
 use Prim.Native.Nat.{◌-◌, ◌/◌, ◌≤◌, min}
@@ -10,6 +9,3 @@ use Rattle.replay_reports.proofs.put_reports.Given as goal
 
 abbrev pub invariant-loop-k : goal.invariant-loop-k
 invariant-loop-k l = (l.k ≤ l.count) × (l.count ≡ min l.fn.count (length l.reports / 2)) × (puts (page l.out l.at) (reported_from l.number l.reports l.k (l.count - l.k)) ≡ puts (page l.initial.out l.fn.at) (reported_from l.number l.reports 0 l.count))
-
-abbrev pub decreases-loop-k : goal.decreases-loop-k
-decreases-loop-k l = l.count - l.k

@@ -3,7 +3,7 @@
 use mathlib.Core.List.{[], ◌∷◌, ◌++◌}
 use Rattle.text_pages.specs.Page.{ended}
 use Rattle.text_pages.proofs.Pages.{follow, last}
-use Rattle.fate_places.specs.Places.{held}
+use Rattle.fate_places.specs.Places.{held_of}
 use Rattle.fate_lines.specs.Lines.{fate_lines}
 use Rattle.replay_fates.specs.Fates.{fates_of}
 use Rattle.replay_reports.specs.Reported.{all_reported}
@@ -18,8 +18,8 @@ returns c =
     let f = c.put_fates-at in
     let l = c.put_reports-at in
     let line = replied a.number a.answer.reply ++ (behind a.shows a.answer a.message.now a.sent.now ++ (ended ∷ [])) in
-    let before = held a.oldspans.now a.oldrings.now a.oldrows.now in
-    let after = held a.spans.now a.rings.now a.rows.now in
+    let before = held_of a.before in
+    let after = held_of a.after in
     let fates = fate_lines a.number (fates_of a.told a.links.now before after a.reports.now) in
     let reports = all_reported a.number a.reports.now a.answer.reports in
     let list = list_lines a.shows a.number a.answer.octets a.sent.now in

@@ -2,7 +2,7 @@
 use mathlib.Core.Path.{ap, ◌∙◌}
 use Rattle.text_pages.specs.Page.{page, puts}
 use Rattle.text_pages.proofs.Pages.{follow, last}
-use Rattle.fate_places.specs.Places.{held}
+use Rattle.fate_places.specs.Places.{held_of}
 use Rattle.fate_lines.specs.declared.Fate.{Fate}
 use Rattle.fate_lines.specs.Lines.{fate_line, fate_lines}
 use Rattle.replay_fates.specs.declared.deciding.Part.TheVariants.{Arriving}
@@ -14,8 +14,8 @@ pub returns : goal.returns
 unfolding fates_of
 returns c =
     let a = c.args in
-    let before = held a.oldspans.now a.oldrings.now a.oldrows.now in
-    let after = held a.spans.now a.rings.now a.rows.now in
+    let before = held_of a.before in
+    let after = held_of a.after in
     let n = c.put_part-at in
     let s = c.put_fate-at in
     let new = fates_in (Arriving a.told.next) after after a.reports.now a.told.reports in

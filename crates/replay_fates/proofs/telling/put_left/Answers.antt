@@ -2,7 +2,7 @@
 use mathlib.Core.Path.{sym, ap, ◌∙◌}
 use Rattle.text_pages.specs.Page.{page, puts}
 use Rattle.text_pages.proofs.Pages.{follow, last}
-use Rattle.fate_places.specs.Places.{held}
+use Rattle.fate_places.specs.Places.{held_of}
 use Rattle.fate_lines.specs.Lines.{fate_lines}
 use Rattle.replay_fates.specs.declared.deciding.Part.{Part}
 use Rattle.replay_fates.specs.declared.deciding.Part.TheVariants.{Moving}
@@ -13,8 +13,8 @@ use Rattle.replay_fates.proofs.telling.put_left.Goals as goal
 pub returns : goal.returns
 returns c =
     let a = c.args in
-    let before = held a.oldspans.now a.oldrings.now a.oldrows.now in
-    let after = held a.spans.now a.rings.now a.rows.now in
+    let before = held_of a.before in
+    let after = held_of a.after in
     let count = a.told.reports in
     let l = c.put_part-at in
     let left = fates_in (leaving_part a.told) before after a.reports.now count in

@@ -7,7 +7,7 @@ use native.Mathlib.Omega.{arith}
 use Rattle.area_slots.specs.declared.Slot.{Slot}
 use Rattle.text_pages.specs.Page.{page, puts}
 use Rattle.text_pages.proofs.Pages.{left_on, left_none}
-use Rattle.fate_places.specs.Places.{Held, held, message_at, whither}
+use Rattle.fate_places.specs.Places.{Held, held_of, message_at, whither}
 use Rattle.fate_lines.specs.declared.Fate.{Fate}
 use Rattle.fate_lines.specs.Lines.{fate_line, fate_lines}
 use Rattle.replay_fates.specs.declared.deciding.Part.{Part}
@@ -26,7 +26,7 @@ fate_is part walked after reports count queue place known known_is to to_is fate
 pub loop-place-init : goal.loop-place-init
 loop-place-init c =
     let a = c.args in
-    let lines : ℕ → List (List ℕ) = λ (n : ℕ). fate_lines a.number (fates_at a.part (held a.walkspans.now a.walkrings.now a.walkrows.now) (held a.spans.now a.rings.now a.rows.now) a.reports.now a.count a.queue 0 n) in
+    let lines : ℕ → List (List ℕ) = λ (n : ℕ). fate_lines a.number (fates_at a.part (held_of a.walked) (held_of a.after) a.reports.now a.count a.queue 0 n) in
     (omega arith, ap (λ (n : ℕ). puts (page a.out.now a.at) (lines n)) (sub-zero a.many))
 
 pub loop-place-preserved : goal.loop-place-preserved
@@ -34,8 +34,8 @@ loop-place-preserved c =
     let a = c.args in
     let l = c.loop-place in
     let many = a.many in
-    let walked = held a.walkspans.now a.walkrings.now a.walkrows.now in
-    let after = held a.spans.now a.rings.now a.rows.now in
+    let walked = held_of a.walked in
+    let after = held_of a.after in
     let known = c.message_at-known in
     let to = c.whither-to in
     let fate = c.fate_of in
@@ -56,8 +56,8 @@ returns c =
     let a = c.args in
     let l = c.loop-place in
     let many = a.many in
-    let walked = held a.walkspans.now a.walkrings.now a.walkrows.now in
-    let after = held a.spans.now a.rings.now a.rows.now in
+    let walked = held_of a.walked in
+    let after = held_of a.after in
     left_none (page l.out l.at) (fate_lines a.number (fates_at a.part walked after a.reports.now a.count a.queue l.place (many - l.place)))
     (places_end a.number a.part walked after a.reports.now a.count a.queue l.place many c.loop-place-test.false)
     l.invariant.1

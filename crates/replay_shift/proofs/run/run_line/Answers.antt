@@ -3,8 +3,7 @@
 use Rattle.std.proofs.Common.{◌≡◌, length, ap, arith}
 use lib.Seq.{slice}
 use Rattle.plan_words.specs.Words.{plan_at}
-use Rattle.replies.specs.Areas.{areas}
-use Rattle.node.specs.Memory.{memory}
+use Rattle.node.specs.Memory.{memory_of}
 use Rattle.record_reading.specs.declared.Reading.TheVariants.{Call, Asks, Unreadable}
 use Rattle.record_reading.specs.Record.{read_line}
 use Rattle.replay_shift.proofs.Room.{slice_long}
@@ -20,8 +19,8 @@ returns-in-Call c =
     let part = c.between-octets_of in
     let called = c.put_called-pending in
     let wrapped = c.wrapping_add_u64 in
-    let before = memory (areas a.links.now a.marks.now a.spans.now a.rings.now a.rows.now a.arrivals.now a.reports.now) a.octets.now a.sent.now in
-    let after = memory (areas called.new.links called.new.marks called.new.spans called.new.rings called.new.rows called.new.arrivals called.new.reports) called.new.octets called.new.sent in
+    let before = memory_of a.areas.now a.reports.now a.sent.now in
+    let after = memory_of called.new.areas called.new.reports called.new.sent in
     let sent_long : length called.new.sent ≡ 4096 = omega arith in
     let reports_long : length called.new.reports ≡ 1024 = omega arith in
     let left =
@@ -40,7 +39,7 @@ returns-in-Asks c =
     let reads : Asks question ≡ read_line a.message.now (slice a.at a.part.end a.text.now) = cc in
     let put = c.put_asked in
     let wrapped = c.wrapping_add_u64-in-Asks in
-    let before = memory (areas a.links.now a.marks.now a.spans.now a.rings.now a.rows.now a.arrivals.now a.reports.now) a.octets.now a.sent.now in
+    let before = memory_of a.areas.now a.reports.now a.sent.now in
     let left =
     question_leaves (plan_at a.plan.now) a.view (slice a.at a.part.end a.text.now) a.part.next before a.message.now a.out.now a.place
     (omega arith) (omega arith) question reads read.new.message read.ensures.message_after
@@ -55,7 +54,7 @@ returns-in-Unreadable c =
     let read = c.read_line in
     let put = c.put_unreadable in
     let reads : Unreadable ≡ read_line a.message.now (slice a.at a.part.end a.text.now) = cc in
-    let before = memory (areas a.links.now a.marks.now a.spans.now a.rings.now a.rows.now a.arrivals.now a.reports.now) a.octets.now a.sent.now in
+    let before = memory_of a.areas.now a.reports.now a.sent.now in
     let left =
     refusal_leaves (plan_at a.plan.now) a.view (slice a.at a.part.end a.text.now) a.part.next before a.message.now a.out.now a.place
     (omega arith) (omega arith) reads read.new.message read.ensures.message_after put.new.out put.result put.ensures

@@ -3,8 +3,7 @@
 use Rattle.std.proofs.Common.{◌≡◌, ◌≤◌, Bool, true, false, cond, length, sym, refl, ap, ◌∙◌, arith}
 use lib.Seq.{slice}
 use Rattle.plan_words.specs.Words.{plan_at}
-use Rattle.replies.specs.Areas.{areas}
-use Rattle.node.specs.Memory.{memory}
+use Rattle.node.specs.Memory.{memory_of}
 use Rattle.replay_shift.proofs.Lines.{less_left}
 use Rattle.replay_shift.specs.Shift.{desk_at, lines_from, ran_lines, sized}
 use Rattle.replay_shift.proofs.Going.{begins, goes_further, stops, ended, sizes_of, line_of, room_of, next_at}
@@ -13,7 +12,7 @@ use Rattle.replay_shift.proofs.run.run_lines.Goals as goal
 pub returns-then-not-fit : goal.returns-then-not-fit
 returns-then-not-fit c =
     let a = c.args in
-    let m = memory (areas a.links.now a.marks.now a.spans.now a.rings.now a.rows.now a.arrivals.now a.reports.now) a.octets.now a.sent.now in
+    let m = memory_of a.areas.now a.reports.now a.sent.now in
     let d = desk_at m a.message.now a.out.now a.from in
     let whole = ran_lines (plan_at a.plan.now) a.view (lines_from a.text.now a.from.at) d in
     let off : sized d a.out.now ≡ false = sym c.fit.ensures ∙ c.if-not-fit.true in
@@ -27,7 +26,7 @@ returns-then-not-fit c =
 pub loop-view-init : goal.loop-view-init
 loop-view-init c =
     let a = c.args in
-    begins (plan_at a.plan.now) a.view a.text.now a.from (memory (areas a.links.now a.marks.now a.spans.now a.rings.now a.rows.now a.arrivals.now a.reports.now) a.octets.now a.sent.now) a.message.now a.out.now
+    begins (plan_at a.plan.now) a.view a.text.now a.from (memory_of a.areas.now a.reports.now a.sent.now) a.message.now a.out.now
 
 pub run_line-place-requires : goal.run_line-place-requires
 run_line-place-requires c =
@@ -58,8 +57,8 @@ loop-view-smaller c =
     let less = less_left a.text.now l.place.at found.result found.ensures (line_of found.result.closed l.place.readable l.place.pending on) in
     let next =
     next_at (plan_at a.plan.now) a.view (slice l.place.at found.result.end a.text.now) found.result.next
-    (desk_at (memory (areas l.links l.marks l.spans l.rings l.rows l.arrivals l.reports) l.octets l.sent) l.message l.out l.place)
-    (memory (areas ran.new.links ran.new.marks ran.new.spans ran.new.rings ran.new.rows ran.new.arrivals ran.new.reports) ran.new.octets ran.new.sent)
+    (desk_at (memory_of l.areas l.reports l.sent) l.message l.out l.place)
+    (memory_of ran.new.areas ran.new.reports ran.new.sent)
     ran.new.message ran.new.out ran.result ran.ensures.result_after
     in
     omega (arith, less, next)
@@ -77,9 +76,9 @@ loop-view-preserved c =
     let on = sym c.goes_on.ensures ∙ c.if-not-goes_on.false in
     let long : length l.out ≡ length a.out.now = omega arith in
     let long' : length ran.new.out ≡ length a.out.now = omega arith in
-    goes_further (plan_at a.plan.now) a.view a.text.now a.from (memory (areas a.links.now a.marks.now a.spans.now a.rings.now a.rows.now a.arrivals.now a.reports.now) a.octets.now a.sent.now) a.message.now a.out.now sizes.out_is
-    (memory (areas l.links l.marks l.spans l.rings l.rows l.arrivals l.reports) l.octets l.sent) l.message l.out l.place long l.invariant found.result found.ensures on
-    (memory (areas ran.new.links ran.new.marks ran.new.spans ran.new.rings ran.new.rows ran.new.arrivals ran.new.reports) ran.new.octets ran.new.sent)
+    goes_further (plan_at a.plan.now) a.view a.text.now a.from (memory_of a.areas.now a.reports.now a.sent.now) a.message.now a.out.now sizes.out_is
+    (memory_of l.areas l.reports l.sent) l.message l.out l.place long l.invariant found.result found.ensures on
+    (memory_of ran.new.areas ran.new.reports ran.new.sent)
     ran.new.message ran.new.out ran.result long' ran.ensures.result_after ran.ensures.pending_bound_2 ran.ensures.out_unchanged
 
 pub returns : goal.returns
@@ -87,8 +86,8 @@ returns c =
     let a = c.args in
     let l = c.loop-view in
     let found = c.line-part in
-    let m = memory (areas a.links.now a.marks.now a.spans.now a.rings.now a.rows.now a.arrivals.now a.reports.now) a.octets.now a.sent.now in
-    let n = memory (areas l.links l.marks l.spans l.rings l.rows l.arrivals l.reports) l.octets l.sent in
+    let m = memory_of a.areas.now a.reports.now a.sent.now in
+    let n = memory_of l.areas l.reports l.sent in
     let d = desk_at m a.message.now a.out.now a.from in
     let whole = ran_lines (plan_at a.plan.now) a.view (lines_from a.text.now a.from.at) d in
     let fits : sized d a.out.now ≡ true = sym c.fit.ensures ∙ c.if-not-fit.false in

@@ -2,15 +2,14 @@
 -- Assumes nothing.
 use Rattle.std.proofs.Common.{◌-◌, length}
 use Rattle.plan_words.specs.Words.{plan_at}
-use Rattle.replies.specs.Areas.{areas}
-use Rattle.node.specs.Memory.{memory}
+use Rattle.node.specs.Memory.{memory_of}
 use Rattle.replay_shift.proofs.Going.{Going}
 use Rattle.replay_shift.proofs.run.run_lines.Given as goal
 
 abbrev pub invariant-loop-view : goal.invariant-loop-view
 invariant-loop-view l =
-    Going (plan_at l.plan) l.view l.text l.initial.place (memory (areas l.initial.links l.initial.marks l.initial.spans l.initial.rings l.initial.rows l.initial.arrivals l.initial.reports) l.initial.octets l.initial.sent) l.initial.message l.initial.out
-    (memory (areas l.links l.marks l.spans l.rings l.rows l.arrivals l.reports) l.octets l.sent) l.message l.out l.place
+    Going (plan_at l.plan) l.view l.text l.initial.place (memory_of l.initial.areas l.initial.reports l.initial.sent) l.initial.message l.initial.out
+    (memory_of l.areas l.reports l.sent) l.message l.out l.place
 
 abbrev pub decreases-loop-view : goal.decreases-loop-view
 decreases-loop-view l = length l.text - l.place.at
