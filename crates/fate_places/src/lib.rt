@@ -9,11 +9,11 @@ use area_slots::{Slot, load_slot};
 use queue_rings::ring::{at, count};
 
 // How many places of a queue there are.
+#[tactic(auto, unfolding(crate::specs::Places::places))]
 pub fn places(spans: &[u16; 70], rings: &[u8; 8960], rows: &[u64; 2048], queue: u8) -> u16
     ensures { result ≡ Places.places (held spans.now rings.now rows.now) queue }
 {
-    let counted = count(spans, queue);
-    if counted < 256 { counted } else { 256 }
+    count(spans, queue).min(256)
 }
 
 // The message at a place of a queue.
@@ -27,8 +27,7 @@ pub fn message_at(
     ensures { result ≡ Places.message_at (held spans.now rings.now rows.now) queue place }
 {
     let taken = at(spans, rings, queue, place);
-    let slot = taken.slot;
-    load_slot(rows, slot)
+    load_slot(rows, taken.slot)
 }
 
 // Whether a message stands in a queue.
@@ -88,8 +87,7 @@ fn queue_of(spans: &[u16; 70], rings: &[u8; 8960], rows: &[u64; 2048], arrival: 
 fn dropped(reports: &[u64], count: usize, arrival: u64) -> bool
     ensures { result ≡ Places.dropped reports.now count arrival }
 {
-    let held = reports.len() / 2;
-    let count = if count < held { count } else { held };
+    let count = count.min(reports.len() / 2);
     for k in 0..count {
         if tells_drop(reports[2 * k], reports[2 * k + 1], arrival) {
             return true;
