@@ -17,11 +17,11 @@ pub struct Held<'a> {
 }
 
 // How many places of a queue there are.
+#[tactic(auto, unfolding(crate::specs::Places::places))]
 pub fn places(held: Held, queue: u8) -> u16
     ensures { result ≡ Places.places (held_of held.entry) queue }
 {
-    let counted = count(held.spans, queue);
-    if counted < 256 { counted } else { 256 }
+    count(held.spans, queue).min(256)
 }
 
 // The message at a place of a queue.
@@ -29,8 +29,7 @@ pub fn message_at(held: Held, queue: u8, place: u16) -> Slot
     ensures { result ≡ Places.message_at (held_of held.entry) queue place }
 {
     let taken = at(held.spans, held.rings, queue, place);
-    let slot = taken.slot;
-    load_slot(held.rows, slot)
+    load_slot(held.rows, taken.slot)
 }
 
 // Whether a message stands in a queue.
@@ -77,8 +76,7 @@ fn queue_of(held: Held, arrival: u64) -> u8
 fn dropped(reports: &[u64], count: usize, arrival: u64) -> bool
     ensures { result ≡ Places.dropped reports.now count arrival }
 {
-    let most = reports.len() / 2;
-    let count = if count < most { count } else { most };
+    let count = count.min(reports.len() / 2);
     for k in 0..count {
         if tells_drop(reports[2 * k], reports[2 * k + 1], arrival) {
             return true;

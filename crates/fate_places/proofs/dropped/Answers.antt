@@ -2,7 +2,7 @@
 use mathlib.Core.Path.{◌≡◌, sym, ap, ◌∙◌}
 use mathlib.Core.Bool.{true, false}
 use Prim.Native.Nat.{ℕ, ◌/◌, min}
-use native.Mathlib.Omega.{arith}
+use Rattle.std.proofs.Common.{rules}
 use lib.ListN.{length}
 use Rattle.fate_places.specs.Places.{seek, tells_drop, dropped}
 use Rattle.fate_places.proofs.Seek.{sought_none, sought_on, sought_hit, sought_end}
@@ -11,7 +11,7 @@ use Rattle.fate_places.proofs.dropped.Goals as goal
 pub loop-k-init : goal.loop-k-init
 loop-k-init c =
     let a = c.args in
-    let few : c.if-count-most.count ≡ min a.count (length a.reports.now / 2) = omega arith in
+    let few : c.min-count.result ≡ min a.count (length a.reports.now / 2) = search rules in
     (few, sought_none _ _ _ _)
 
 pub returns-then-tells_drop : goal.returns-then-tells_drop
