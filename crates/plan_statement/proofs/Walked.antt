@@ -14,9 +14,11 @@ use Rattle.text_fields.specs.Fields.{fields_at}
 use Rattle.text_fields.proofs.Listed.{ByFour, fields_listed}
 use Rattle.plan_keywords.specs.declared.Word.{Word}
 use Rattle.plan_keywords.specs.declared.Word.TheVariants.{Node, Set, Link, Route, Other}
-use Rattle.plan_statement.specs.declared.Said.{Said}
 use Rattle.plan_keywords.specs.StatementWords.{word_of, fields_of}
+use Rattle.plan_statement.specs.declared.Statement.{Statement}
 use Rattle.plan_statement.specs.Statement.{says, said_by, read_statement, says_counted}
+use Rattle.plan_building.specs.declared.Fault.{Fault}
+use Rattle.std.specs.Prelude.{Result}
 
 -- no word has more than four fields
 within : (word : Word) → fields_of word ≤ 4
@@ -57,6 +59,6 @@ pub by_reading :
     first ≡ slice f.zero.next f.one.end text →
     second ≡ slice f.one.next f.two.end text →
     third ≡ slice f.two.next f.three.end text →
-    (said : Said) → said ≡ says_counted f.count word first second third → said ≡ read_statement (slice at to text)
+    (said : Result Statement Fault) → said ≡ says_counted f.count word first second third → said ≡ read_statement (slice at to text)
 by_reading text at to f e word first second third e₀ e₁ e₂ e₃ said e₄ =
     e₄ ∙ (λ i. says_counted f.count (e₀ i) (e₁ i) (e₂ i) (e₃ i)) ∙ sym (by_four _ _ _ _ _ _ (fields_listed text at to f e))
