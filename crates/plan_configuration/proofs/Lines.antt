@@ -23,7 +23,7 @@ use Rattle.plan_statement.specs.Statement.{read_statement}
 use Rattle.plan_configuration.specs.Configure.{add_by, add, add_said, first_word, is_node, add_line, add_lines, done, faulty, configured}
 use Rattle.plan_building.specs.declared.Fault.{Fault}
 use Rattle.plan_building.specs.declared.Fault.TheVariants.{WrongLine, NoNode}
-use Rattle.std.specs.Prelude.{Result, Err}
+use Rattle.std.specs.Prelude.{Option, Result, Err}
 
 -- a statement is put in by its word
 pub by_word : (plan : Plan) (statement : Statement) (word : Word) → statement.word ≡ word → add_by word plan statement.first statement.second statement.third ≡ add plan statement
@@ -34,7 +34,7 @@ by_word plan statement word e =
 abbrev pub no_node : Plan → List ℕ → Bool
 no_node plan line = not plan.given && not (is_node (first_word line))
 
-module _ (plan : Plan) (line : List ℕ) (word : Word) (told : Bool) (first : word ≡ first_word line) (tells : told ≡ is_node word) where
+module _ (plan : Plan) (line : List ℕ) (word : Option Word) (told : Bool) (first : word ≡ first_word line) (tells : told ≡ is_node word) where
   tested : (given test : Bool) → plan.given ≡ given → told ≡ test → no_node plan line ≡ not given && not test
   tested given test e f = ap₂ (λ (a b : Bool). not a && not b) e (sym (tells ∙ ap is_node first) ∙ f)
 

@@ -11,13 +11,12 @@ use Rattle.plan.specs.declared.data.Plan.{Plan}
 use Rattle.plan.specs.Data.{empty_plan}
 use Rattle.plan_building.specs.Building.{fault_of, plan_after, Kept}
 use Rattle.plan.specs.Sound.{Sound}
-use Rattle.plan_building.proofs.Kept.{refuse}
 use Rattle.plan_sets.proofs.Kept.{node_kept, set_kept}
 use Rattle.plan_links.proofs.Kept.{link_kept}
 use Rattle.plan_routes.proofs.Kept.{route_kept}
 use Rattle.plan.proofs.Sound.{empty_sound}
 use Rattle.plan_keywords.specs.declared.Word.{Word}
-use Rattle.plan_keywords.specs.declared.Word.TheVariants.{Node, Set, Link, Route, Other}
+use Rattle.plan_keywords.specs.declared.Word.TheVariants.{Node, Set, Link, Route}
 use Rattle.plan_statement.specs.declared.Statement.{Statement}
 use Rattle.plan_statement.specs.Statement.{read_statement}
 use Rattle.plan_configuration.specs.declared.configure.Configured.{Configured}
@@ -42,7 +41,6 @@ module _ (plan : Plan) (sound : Sound plan) where
   by_word_kept Set first second third = set_kept plan sound first second
   by_word_kept Link first second third = link_kept plan sound first second third
   by_word_kept Route first second third = route_kept plan sound first second third
-  by_word_kept Other first second third = refuse plan sound WrongLine
 
   -- whatever the statement is
   pub added_sound : (statement : Statement) → Kept plan (add plan statement)

@@ -1,5 +1,5 @@
 -- A whole configuration: "The first faulty line is reported, with the first of its faults" (R163, R164).
-use Rattle.std.specs.Prelude.{ℕ, ◌+◌, Bool, true, false, cond, not, ◌&&◌, List, [], ◌∷◌, length, get_or, ltb, eqb, Result, Ok, Err}
+use Rattle.std.specs.Prelude.{ℕ, ◌+◌, Bool, true, false, cond, not, ◌&&◌, List, [], ◌∷◌, length, get_or, ltb, eqb, Option, Some, None, Result, Ok, Err}
 use Rattle.text.specs.Part.{split, is_empty, lf, tab}
 use Rattle.plan.specs.declared.data.Plan.{Plan}
 use Rattle.plan.specs.Data.{empty_plan}
@@ -8,7 +8,7 @@ use Rattle.plan_sets.specs.SetLines.{add_node, add_set}
 use Rattle.plan_links.specs.LinkLines.{add_link}
 use Rattle.plan_routes.specs.RouteLines.{add_route}
 use Rattle.plan_statement.specs.declared.Statement.{Statement}
-use Rattle.plan_keywords.specs.declared.Word.TheVariants.{Node, Set, Link, Route, Other}
+use Rattle.plan_keywords.specs.declared.Word.TheVariants.{Node, Set, Link, Route}
 use Rattle.plan_keywords.specs.declared.Word.{Word}
 use Rattle.plan_configuration.specs.declared.configure.Configured.{Configured}
 use Rattle.plan_keywords.specs.StatementWords.{word_of}
@@ -22,7 +22,6 @@ add_by Node plan code ni none = add_node plan code ni
 add_by Set plan number adjacent none = add_set plan number adjacent
 add_by Link plan number those slc = add_link plan number those slc
 add_by Route plan destination those rank = add_route plan destination those rank
-add_by Other plan first second third = Err WrongLine
 
 abbrev pub add : Plan → Statement → Result Plan Fault
 add plan statement = add_by statement.word plan statement.first statement.second statement.third
@@ -33,15 +32,15 @@ add_said plan (Ok statement) = add plan statement
 add_said plan (Err fault) = Err fault
 
 -- the first word of a line
-abbrev pub first_word : List ℕ → Word
+abbrev pub first_word : List ℕ → Option Word
 first_word line = word_of (get_or (split tab line) 0 [])
 
-abbrev pub is_node : Word → Bool
-is_node Node = true
-is_node Set = false
-is_node Link = false
-is_node Route = false
-is_node Other = false
+abbrev pub is_node : Option Word → Bool
+is_node (Some Node) = true
+is_node (Some Set) = false
+is_node (Some Link) = false
+is_node (Some Route) = false
+is_node None = false
 
 -- a line put into the plan: "25 the first word of line 1 isn't `node`" (R165); "20 wrong word, field count or no LF" (R166); then its other
 -- faults. No node is given before line 1 alone.

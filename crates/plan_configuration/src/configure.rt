@@ -84,27 +84,20 @@ fn add(plan: Plan, statement: Statement) -> Result<Plan, Fault>
         Word::Set => add_set(plan, first, second),
         Word::Link => add_link(plan, first, second, third),
         Word::Route => add_route(plan, first, second, third),
-        Word::Other => Err(Fault::WrongLine),
     }
 }
 
-fn first_word(text: &[u8], at: usize, to: usize) -> Word
+fn first_word(text: &[u8], at: usize, to: usize) -> Option<Word>
     ensures { result ≡ Configure.first_word (slice at to text.now) }
 {
     let first = field(text, at, to);
     read_word(between(text, at, first.end))
 }
 
-fn is_node(word: Word) -> bool
+fn is_node(word: Option<Word>) -> bool
     ensures { result ≡ Configure.is_node word }
 {
-    match word {
-        Word::Node => true,
-        Word::Set => false,
-        Word::Link => false,
-        Word::Route => false,
-        Word::Other => false,
-    }
+    matches!(word, Some(Word::Node))
 }
 
 fn faulty(line: usize, fault: Fault) -> Configured

@@ -14,7 +14,7 @@ use Rattle.plan_configuration.specs.Configure.{is_node, add_by, add_line, config
 use Rattle.plan_configuration.proofs.Made.{added_sound}
 use Rattle.plan_faults.proofs.EachLine.{each_line, each_text}
 use Rattle.plan_building.specs.declared.Fault.{Fault}
-use Rattle.std.specs.Prelude.{Result, Ok, Err}
+use Rattle.std.specs.Prelude.{Some, Result, Ok, Err}
 
 pub record Leaves (P : Plan → Type 0) (plan : Plan) (added : Result Plan Fault) : Type 0 where
   pub left : P (plan_after plan added)
@@ -37,7 +37,7 @@ record Made (P : Plan → Type 0) (plan : Plan) : Type 0 where
 
 -- what holds of the empty plan, and of a sound plan with a statement more, holds of the plan of every text
 module _ (P : Plan → Type 0) (empty : P empty_plan)
-    (adds : (plan : Plan) → Sound plan → P plan → (word : Word) → (is_node word ≡ false → plan.given ≡ true) → (a b c : ℕ) → Leaves P plan (add_by word plan a b c)) where
+    (adds : (plan : Plan) → Sound plan → P plan → (word : Word) → (is_node (Some word) ≡ false → plan.given ≡ true) → (a b c : ℕ) → Leaves P plan (add_by word plan a b c)) where
   line_more : (plan : Plan) → Made P plan → (line : List ℕ) (ended : Bool) → Made P (plan_after plan (add_line plan line ended))
   line_more plan so_far line ended =
       each_line (λ added. Made P (plan_after plan added)) plan (λ fault. so_far)

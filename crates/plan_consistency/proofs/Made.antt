@@ -15,7 +15,7 @@ use Rattle.plan.proofs.Split.{split, both_false}
 use Rattle.plan_repeats.specs.Taken.{adjacent_taken, slc_taken, set_taken}
 use Rattle.plan_routes.specs.RouteLines.{route_taken}
 use Rattle.plan_keywords.specs.declared.Word.{Word}
-use Rattle.plan_keywords.specs.declared.Word.TheVariants.{Node, Set, Link, Route, Other}
+use Rattle.plan_keywords.specs.declared.Word.TheVariants.{Node, Set, Link, Route}
 use Rattle.plan_configuration.specs.Configure.{is_node, add_by, configured}
 use Rattle.plan_configuration.proofs.Made.{configured_sound}
 use Rattle.plan_consistency.specs.Consistent.{InItsSet, Consistent}
@@ -25,8 +25,8 @@ use Rattle.plan_consistency.proofs.Sets.{set_fits}
 use Rattle.plan_consistency.proofs.Links.{link_fits}
 use Rattle.plan_consistency.proofs.Routes.{known_fits, new_fits}
 use Rattle.plan_building.specs.declared.Fault.{Fault}
-use Rattle.plan_building.specs.declared.Fault.TheVariants.{WrongLine, OutOfRange, Repeat, NotGiven, Full}
-use Rattle.std.specs.Prelude.{Err}
+use Rattle.plan_building.specs.declared.Fault.TheVariants.{OutOfRange, Repeat, NotGiven, Full}
+use Rattle.std.specs.Prelude.{Some, Err}
 
 known_true : (b : Bool) → not b ≡ false → b ≡ true
 known_true true e = refl
@@ -36,7 +36,7 @@ module _ (plan : Plan) (sound : Sound plan) (fits : Fits plan) where
   told : (fault : Fault) → Leaves Fits plan (Err fault)
   told = refuse Fits plan fits
 
-  by_word : (word : Word) → (is_node word ≡ false → plan.given ≡ true) → (a b c : ℕ) → Leaves Fits plan (add_by word plan a b c)
+  by_word : (word : Word) → (is_node (Some word) ≡ false → plan.given ≡ true) → (a b c : ℕ) → Leaves Fits plan (add_by word plan a b c)
   by_word Node has code ni c =
       choose Fits plan (ltb 16383 code || ltb 3 ni) _ _ (λ e. told OutOfRange)
       (λ e. choose Fits plan plan.given _ _ (λ f. told Repeat)
@@ -86,7 +86,6 @@ module _ (plan : Plan) (sound : Sound plan) (fits : Fits plan) where
       (both_false (set_taken (routes_of plan place) those) (get_or (routes_of plan place) rank absent_route).given free).0)))
       (λ missing. choose Fits plan (leb 64 plan.count) _ _ (λ full. told Full)
       (λ room. put_in Fits plan _ (new_fits plan sound fits destination those rank (omega arith) (has refl) known differs (leb-false 64 plan.count room)))))))
-  by_word Other has a b c = told WrongLine
 
 -- a plan that is sound and fits is consistent
 module _ (plan : Plan) (sound : Sound plan) (fits : Fits plan) where

@@ -22,13 +22,13 @@ use Rattle.plan_entries.proofs.Inserted.{inserted_length}
 use Rattle.plan_sets.specs.SetLines.{new_set}
 use Rattle.plan_routes.specs.RouteLines.{with_route, route_taken}
 use Rattle.plan_keywords.specs.declared.Word.{Word}
-use Rattle.plan_keywords.specs.declared.Word.TheVariants.{Node, Set, Link, Route, Other}
+use Rattle.plan_keywords.specs.declared.Word.TheVariants.{Node, Set, Link, Route}
 use Rattle.plan_configuration.specs.Configure.{add_by, configured}
 use Rattle.plan_consistency.specs.Consistent.{InRange}
 use Rattle.plan_consistency.proofs.Fits.{same_all}
 use Rattle.plan_consistency.proofs.Leaves.{Leaves, choose, refuse, put_in, each_made}
 use Rattle.plan_building.specs.declared.Fault.{Fault}
-use Rattle.plan_building.specs.declared.Fault.TheVariants.{WrongLine, OutOfRange, Repeat, NotGiven, Full}
+use Rattle.plan_building.specs.declared.Fault.TheVariants.{OutOfRange, Repeat, NotGiven, Full}
 use Rattle.std.specs.Prelude.{Err}
 
 -- what holds of each value and of a new one holds of each with the new one in its place
@@ -154,7 +154,6 @@ module _ (plan : Plan) (sound : Sound plan) (range : InRange plan) where
             (omega arith)
             range.destination_range);
       }))))))
-  by_word Other a b c = told WrongLine
 
 pub configured_in_range : (text : List ℕ) → InRange (configured text).plan
 configured_in_range = each_made InRange empty_range (λ plan sound range word has. by_word plan sound range word)

@@ -16,21 +16,21 @@ use Rattle.plan_building.specs.Building.{fault_of, plan_after}
 use Rattle.plan_keywords.specs.declared.Word.{Word}
 use Rattle.plan_keywords.specs.StatementWords.{fields_of}
 use Rattle.plan_statement.specs.declared.Statement.{Statement}
-use Rattle.plan_statement.specs.Statement.{with_number, read_statement}
+use Rattle.plan_statement.specs.Statement.{with_number, said_as, read_statement}
 use Rattle.plan_configuration.specs.declared.configure.Configured.{Configured}
 use Rattle.plan_configuration.specs.Configure.{add_by, add_said, add_line, add_lines, first_word, is_node, done, faulty, configured}
 use Rattle.plan_building.specs.declared.Fault.{Fault}
 use Rattle.plan_building.specs.declared.Fault.TheVariants.{WrongLine, OutOfRange, NoNode}
-use Rattle.std.specs.Prelude.{Result, Ok, Err}
+use Rattle.std.specs.Prelude.{Option, Some, None, Result, Ok, Err}
 
 -- what holds of a refusal and of every statement put in, by the word `node` or into a plan that has its node
 module _ (P : Result Plan Fault → Type 0) (plan : Plan) (refuses : (fault : Fault) → P (Err fault))
-    (adds : (word : Word) → (is_node word ≡ false → plan.given ≡ true) → (a b c : ℕ) → P (add_by word plan a b c)) where
+    (adds : (word : Word) → (is_node (Some word) ≡ false → plan.given ≡ true) → (a b c : ℕ) → P (add_by word plan a b c)) where
   by_test : (test : Bool) (a b : Result Plan Fault) → P a → (test ≡ false → P b) → P (cond test a b)
   by_test true a b p q = p
   by_test false a b p q = q refl
 
-  by_numbers : (word : Word) → (is_node word ≡ false → plan.given ≡ true) → (x y z : Number)
+  by_numbers : (word : Word) → (is_node (Some word) ≡ false → plan.given ≡ true) → (x y z : Number)
       → P (add_said plan (with_number x (λ a. with_number y (λ b. with_number z (λ c. Ok (record { word = word; first = a; second = b; third = c }))))))
   by_numbers word has Wrong y z = refuses OutOfRange
   by_numbers word has (Value a) Wrong z = refuses OutOfRange
@@ -40,6 +40,11 @@ module _ (P : Result Plan Fault → Type 0) (plan : Plan) (refuses : (fault : Fa
   by_count : (fits : Bool) (said : Result Statement Fault) → P (add_said plan said) → P (add_said plan (cond fits said (Err WrongLine)))
   by_count true said p = p
   by_count false said p = refuses WrongLine
+
+  by_known : (word : Option Word) → (is_node word ≡ false → plan.given ≡ true) → (all : List (List ℕ)) → P (add_said plan (said_as word all))
+  by_known (Some word) has all =
+      by_count (eqb (length all) (fields_of word)) _ (by_numbers word has (number (get_or all 1 [])) (number (get_or all 2 [])) (number (get_or all 3 (48 ∷ []))))
+  by_known None has all = refuses WrongLine
 
   by_end : (ended : Bool) (said : Result Plan Fault) → P said → P (cond ended said (Err WrongLine))
   by_end true said p = p
@@ -56,7 +61,7 @@ module _ (P : Result Plan Fault → Type 0) (plan : Plan) (refuses : (fault : Fa
       by_test missing (Err NoNode) (cond ended (add_said plan (read_statement line)) (Err WrongLine)) (refuses NoNode)
       (λ e.
       by_end ended (add_said plan (read_statement line))
-      (by_count (eqb (length all) (fields_of word)) _ (by_numbers word (has e) (number (get_or all 1 [])) (number (get_or all 2 [])) (number (get_or all 3 (48 ∷ []))))))
+      (by_known word (has e) all))
 
 -- what holds of the empty plan, and of a plan with a line more, holds of the plan of every text
 module _ (P : Plan → Type 0) (empty : P empty_plan) (line_more : (plan : Plan) → P plan → (line : List ℕ) (ended : Bool) → P (plan_after plan (add_line plan line ended))) where

@@ -12,14 +12,14 @@ use Rattle.plan_repeats.specs.Taken.{adjacent_taken, slc_taken}
 use Rattle.plan_routes.specs.RouteLines.{route_taken}
 use Rattle.plan_building.specs.Building.{fault_of, plan_after}
 use Rattle.plan_keywords.specs.declared.Word.{Word}
-use Rattle.plan_keywords.specs.declared.Word.TheVariants.{Node, Set, Link, Route, Other}
+use Rattle.plan_keywords.specs.declared.Word.TheVariants.{Node, Set, Link, Route}
 use Rattle.plan_statement.specs.Statement.{read_statement}
 use Rattle.plan_building.proofs.Numbers.{over}
 use Rattle.plan_faults.proofs.EachLine.{each_line}
 use Rattle.plan_configuration.specs.Configure.{add_by, add_said, add_line, first_word, is_node}
 use Rattle.plan_building.specs.declared.Fault.{Fault}
 use Rattle.plan_building.specs.declared.Fault.TheVariants.{WrongLine, OutOfRange, Repeat, NotGiven, Full, NoNode}
-use Rattle.std.specs.Prelude.{Result, Ok, Err}
+use Rattle.std.specs.Prelude.{Some, Result, Ok, Err}
 
 -- what is put in without fault has its node
 record WithNode (plan : Plan) (added : Result Plan Fault) : Type 0 where
@@ -37,7 +37,7 @@ module _ (plan : Plan) where
   put_in next has = record { node = λ e. has }
 
   -- the word `node`, or a plan that has its node
-  by_word : (word : Word) → (is_node word ≡ false → plan.given ≡ true) → (a b c : ℕ) → WithNode plan (add_by word plan a b c)
+  by_word : (word : Word) → (is_node (Some word) ≡ false → plan.given ≡ true) → (a b c : ℕ) → WithNode plan (add_by word plan a b c)
   by_word Node has a b c =
       one_of (ltb 16383 a || ltb 3 b) _ _ (told OutOfRange) (one_of plan.given _ _ (told Repeat) (put_in _ refl))
   by_word Set has a b c =
@@ -55,7 +55,6 @@ module _ (plan : Plan) where
       (one_of (is_found plan a) _ _
       (one_of (route_taken (routes_of plan (place_of plan a)) b c) _ _ (told Repeat) (put_in _ (has refl)))
       (one_of (leb 64 plan.count) _ _ (told Full) (put_in _ (has refl))))))
-  by_word Other has a b c = told WrongLine
 
   module _ (line : List ℕ) where
     -- what a line makes

@@ -34,13 +34,16 @@ pub fn read_statement(text: &[u8], at: usize, to: usize) -> Result<Statement, Fa
 
 fn says_counted(
     count: u8,
-    word: Word,
+    word: Option<Word>,
     first: &[u8],
     second: &[u8],
     third: &[u8],
 ) -> Result<Statement, Fault>
     ensures { result ≡ Statement·.says_counted count word first.now second.now third.now }
 {
+    let Some(word) = word else {
+        return Err(Fault::WrongLine);
+    };
     if count != fields(word) {
         return Err(Fault::WrongLine);
     }
