@@ -6,8 +6,8 @@ ghost use Rattle.plan_links.specs.LinkLines as LinkLines;
 
 use plan::data::{Link, LinkSet, Plan};
 use plan_building::Fault;
-use plan_entries::insert::insert_link;
-use plan_repeats::taken::among;
+use plan_entries::insert::inserted;
+use plan_repeats::taken::place_among;
 
 pub fn add_link(plan: Plan, number: u64, set: u64, slc: u64) -> Result<Plan, Fault>
     ensures { result ≡ LinkLines.add_link plan number set slc }
@@ -22,15 +22,17 @@ pub fn add_link(plan: Plan, number: u64, set: u64, slc: u64) -> Result<Plan, Fau
         return Err(Fault::NotGiven);
     }
     let link = plan.links[n];
-    let around = among(plan, s, slc as u8);
-    if link.given || around.taken {
+    if link.given {
         return Err(Fault::Repeat);
     }
+    let Some(place) = place_among(plan, s, slc as u8) else {
+        return Err(Fault::Repeat);
+    };
     if 8 <= those.count {
         return Err(Fault::Full);
     }
     let before = those.links;
-    let links = insert_link(before, around.lower, number as u8);
+    let links = inserted(before, place, number as u8);
     let mut next = plan;
     next.links[n] = Link {
         given: true,

@@ -7,7 +7,7 @@ ghost use Rattle.plan_routes.specs.RouteLines as RouteLines;
 use plan::data::{Destination, Plan, Route};
 use plan::find::find;
 use plan_building::Fault;
-use plan_entries::insert::insert_destination;
+use plan_entries::insert::inserted;
 use plan_repeats::taken::set_taken;
 
 pub fn add_route(plan: Plan, destination: u64, set: u64, rank: u64) -> Result<Plan, Fault>
@@ -63,7 +63,7 @@ fn new_route(plan: Plan, place: usize, code: u16, set: u8, rank: usize) -> Resul
     }; 4];
     routes[rank] = Route { given: true, set };
     let before = plan.destinations;
-    let destinations = insert_destination(before, place, Destination { code, routes });
+    let destinations = inserted(before, place, Destination { code, routes });
     let mut next = plan;
     next.destinations = destinations;
     next.count = plan.count + 1;
