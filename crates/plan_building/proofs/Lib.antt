@@ -1,3 +1,4 @@
 pub mod Kept
+pub mod Numbers
 pub mod SetKept
 pub mod Tests

@@ -15,14 +15,15 @@ use Rattle.text.specs.Part.{lf, marked, line_at, split, is_empty}
 use borrow.Table.Steps.{cases}
 use Rattle.text.proofs.Parts.{cut_none, first_part, split_last, next_onward, next_within}
 use Rattle.plan.specs.declared.data.Plan.{Plan}
-use Rattle.plan_building.specs.declared.Added.{Added}
 use Rattle.plan.specs.Data.{empty_plan}
-use Rattle.plan_building.specs.Building.{refused}
+use Rattle.plan_building.specs.Building.{fault_of, plan_after}
 use Rattle.plan_keywords.specs.declared.Word.{Word}
 use Rattle.plan_statement.specs.declared.Statement.{Statement}
-use Rattle.plan_statement.specs.declared.Said.{Said}
 use Rattle.plan_statement.specs.Statement.{read_statement}
 use Rattle.plan_configuration.specs.Configure.{add_by, add, add_said, first_word, is_node, add_line, add_lines, done, faulty, configured}
+use Rattle.plan_building.specs.declared.Fault.{Fault}
+use Rattle.plan_building.specs.declared.Fault.TheVariants.{WrongLine, NoNode}
+use Rattle.std.specs.Prelude.{Option, Result, Err}
 
 -- a statement is put in by its word
 pub by_word : (plan : Plan) (statement : Statement) (word : Word) → statement.word ≡ word → add_by word plan statement.first statement.second statement.third ≡ add plan statement
@@ -33,7 +34,7 @@ by_word plan statement word e =
 abbrev pub no_node : Plan → List ℕ → Bool
 no_node plan line = not plan.given && not (is_node (first_word line))
 
-module _ (plan : Plan) (line : List ℕ) (word : Word) (told : Bool) (first : word ≡ first_word line) (tells : told ≡ is_node word) where
+module _ (plan : Plan) (line : List ℕ) (word : Option Word) (told : Bool) (first : word ≡ first_word line) (tells : told ≡ is_node word) where
   tested : (given test : Bool) → plan.given ≡ given → told ≡ test → no_node plan line ≡ not given && not test
   tested given test e f = ap₂ (λ (a b : Bool). not a && not b) e (sym (tells ∙ ap is_node first) ∙ f)
 
@@ -47,24 +48,24 @@ pub node_given : (plan : Plan) (line : List ℕ) → plan.given ≡ true → no_
 node_given plan line e = ap (λ (a : Bool). not a && not (is_node (first_word line))) e
 
 module _ (plan : Plan) (line : List ℕ) (ended : Bool) where
-  pub no_node_lem : no_node plan line ≡ true → add_line plan line ended ≡ refused 25 plan
-  no_node_lem e = ap (λ (t : Bool). cond t (refused 25 plan) (cond ended (add_said plan (read_statement line)) (refused 20 plan))) e
+  pub no_node_lem : no_node plan line ≡ true → add_line plan line ended ≡ Err NoNode
+  no_node_lem e = ap (λ (t : Bool). cond t (Err NoNode) (cond ended (add_said plan (read_statement line)) (Err WrongLine))) e
 
-  goes_on : no_node plan line ≡ false → add_line plan line ended ≡ cond ended (add_said plan (read_statement line)) (refused 20 plan)
-  goes_on e = ap (λ (t : Bool). cond t (refused 25 plan) (cond ended (add_said plan (read_statement line)) (refused 20 plan))) e
+  goes_on : no_node plan line ≡ false → add_line plan line ended ≡ cond ended (add_said plan (read_statement line)) (Err WrongLine)
+  goes_on e = ap (λ (t : Bool). cond t (Err NoNode) (cond ended (add_said plan (read_statement line)) (Err WrongLine))) e
 
-  pub no_end : no_node plan line ≡ false → ended ≡ false → add_line plan line ended ≡ refused 20 plan
-  no_end e f = goes_on e ∙ ap (λ (t : Bool). cond t (add_said plan (read_statement line)) (refused 20 plan)) f
+  pub no_end : no_node plan line ≡ false → ended ≡ false → add_line plan line ended ≡ Err WrongLine
+  no_end e f = goes_on e ∙ ap (λ (t : Bool). cond t (add_said plan (read_statement line)) (Err WrongLine)) f
 
-  pub said : no_node plan line ≡ false → ended ≡ true → {what : Said} → read_statement line ≡ what → add_line plan line ended ≡ add_said plan what
-  said e f g = goes_on e ∙ ap (λ (t : Bool). cond t (add_said plan (read_statement line)) (refused 20 plan)) f ∙ ap (add_said plan) g
+  pub said : no_node plan line ≡ false → ended ≡ true → {what : Result Statement Fault} → read_statement line ≡ what → add_line plan line ended ≡ add_said plan what
+  said e f g = goes_on e ∙ ap (λ (t : Bool). cond t (add_said plan (read_statement line)) (Err WrongLine)) f ∙ ap (add_said plan) g
 
 -- a line with no LF is faulty
-no_end_faulty : (plan : Plan) (line : List ℕ) → (add_line plan line false).fault ≡ 0 → ⊥
+no_end_faulty : (plan : Plan) (line : List ℕ) → fault_of (add_line plan line false) ≡ 0 → ⊥
 no_end_faulty plan line e =
     cases (no_node plan line)
-    (λ t. let z : ◌≡◌ {A = ℕ} 25 0 = sym (ap (λ (a : Added). a.fault) (no_node_lem plan line false t)) ∙ e in omega arith)
-    (λ t. let z : ◌≡◌ {A = ℕ} 20 0 = sym (ap (λ (a : Added). a.fault) (no_end plan line false t refl)) ∙ e in omega arith)
+    (λ t. let z : ◌≡◌ {A = ℕ} 25 0 = sym (ap fault_of (no_node_lem plan line false t)) ∙ e in omega arith)
+    (λ t. let z : ◌≡◌ {A = ℕ} 20 0 = sym (ap fault_of (no_end plan line false t refl)) ∙ e in omega arith)
 
 -- the lines of a text from a place on
 abbrev pub lines_from : List ℕ → ℕ → List (List ℕ)
@@ -99,7 +100,7 @@ module _ (plan : Plan) (number : ℕ) (text : List ℕ) (at : ℕ) where
   turn_done e =
       let h = both plan.given (leb (length text) at) e in
       ap (add_lines plan number) (lines_end text at (leb-true _ _ h.1))
-      ∙ ap (λ (t : Bool). cond (t && true) (done plan) (faulty number (add_line plan [] false).fault)) h.0
+      ∙ ap (λ (t : Bool). cond (t && true) (done plan) (faulty number (fault_of (add_line plan [] false)))) h.0
 
   module _ (end : Part) (here : end ≡ line_at text at) where
     line : List ℕ
@@ -121,38 +122,38 @@ module _ (plan : Plan) (number : ℕ) (text : List ℕ) (at : ℕ) where
     closed_line :
         end.closed ≡ true →
         add_lines plan number (lines_from text at)
-        ≡ cond (eqb (add_line plan line true).fault 0)
-        (add_lines (add_line plan line true).plan (number + 1) (lines_from text end.next))
-        (faulty number (add_line plan line true).fault)
+        ≡ cond (eqb (fault_of (add_line plan line true)) 0)
+        (add_lines (plan_after plan (add_line plan line true)) (number + 1) (lines_from text end.next))
+        (faulty number (fault_of (add_line plan line true)))
     unfolding line add_lines
     closed_line c =
         let rest = lines_from text end.next in
         let lines = lines_are text at end here ∙ ap (λ (t : Bool). line ∷ cond t rest []) c in
         ap (add_lines plan number) lines
         ∙ subst
-        (λ (r : List (List ℕ)). add_lines plan number (line ∷ r) ≡ cond (eqb (add_line plan line true).fault 0) (add_lines (add_line plan line true).plan (number + 1) r) (faulty number (add_line plan line true).fault))
+        (λ (r : List (List ℕ)). add_lines plan number (line ∷ r) ≡ cond (eqb (fault_of (add_line plan line true)) 0) (add_lines (plan_after plan (add_line plan line true)) (number + 1) r) (faulty number (fault_of (add_line plan line true))))
         (sym (lines_are text end.next (line_at text end.next) refl))
         refl
 
-    module _ (added : Added) (put : added ≡ add_line plan (slice at end.end text) end.closed) where
+    module _ (added : Result Plan Fault) (put : added ≡ add_line plan (slice at end.end text) end.closed) where
       -- as the line is put in with its LF, or without
-      as_ended : (t : Bool) → end.closed ≡ t → added.fault ≡ (add_line plan line t).fault
+      as_ended : (t : Bool) → end.closed ≡ t → fault_of added ≡ fault_of (add_line plan line t)
       unfolding line
-      as_ended t c = ap (λ (a : Added). a.fault) (put ∙ ap (add_line plan line) c)
+      as_ended t c = ap fault_of (put ∙ ap (add_line plan line) c)
 
       -- the first faulty line is reported
-      pub turn_faulty : plan.given && leb (length text) at ≡ false → (added.fault ≡ 0 → ⊥) → add_lines plan number (lines_from text at) ≡ faulty number added.fault
+      pub turn_faulty : plan.given && leb (length text) at ≡ false → (fault_of added ≡ 0 → ⊥) → add_lines plan number (lines_from text at) ≡ faulty number (fault_of added)
       unfolding add_lines
       turn_faulty e f =
           cases end.closed
           (λ c.
-          let bad : eqb (add_line plan line true).fault 0 ≡ false = ne_eqb _ _ (λ z. f (as_ended true c ∙ z)) in
+          let bad : eqb (fault_of (add_line plan line true)) 0 ≡ false = ne_eqb _ _ (λ z. f (as_ended true c ∙ z)) in
           closed_line c
-          ∙ ap (λ (t : Bool). cond t (add_lines (add_line plan line true).plan (number + 1) (lines_from text end.next)) (faulty number (add_line plan line true).fault)) bad
+          ∙ ap (λ (t : Bool). cond t (add_lines (plan_after plan (add_line plan line true)) (number + 1) (lines_from text end.next)) (faulty number (fault_of (add_line plan line true)))) bad
           ∙ ap (faulty number) (sym (as_ended true c)))
           (λ c.
           ap (add_lines plan number) (last_line c)
-          ∙ ap (λ (t : Bool). cond t (done plan) (faulty number (add_line plan line false).fault)) (left c)
+          ∙ ap (λ (t : Bool). cond t (done plan) (faulty number (fault_of (add_line plan line false)))) (left c)
           ∙ ap (faulty number) (sym (as_ended false c)))
         where
           left : end.closed ≡ false → plan.given && is_empty line ≡ false
@@ -165,17 +166,17 @@ module _ (plan : Plan) (number : ℕ) (text : List ℕ) (at : ℕ) where
               (λ g. ap (λ (t : Bool). t && is_empty line) g)
 
       -- a line that isn't faulty has its LF, and reading goes on behind it
-      pub turn_closed : added.fault ≡ 0 → end.closed ≡ true
+      pub turn_closed : fault_of added ≡ 0 → end.closed ≡ true
       turn_closed f = cases end.closed (λ c. c) (λ c. absurd (no_end_faulty plan line (sym (as_ended false c) ∙ f)))
 
-      pub turn_on : added.fault ≡ 0 → add_lines plan number (lines_from text at) ≡ add_lines added.plan (number + 1) (lines_from text end.next)
+      pub turn_on : fault_of added ≡ 0 → add_lines plan number (lines_from text at) ≡ add_lines (plan_after plan added) (number + 1) (lines_from text end.next)
       unfolding line
       turn_on f =
           let c = turn_closed f in
-          let good : eqb (add_line plan line true).fault 0 ≡ true = eq-eqb _ _ (sym (as_ended true c) ∙ f) in
-          let next : (add_line plan line true).plan ≡ added.plan = ap (λ (a : Added). a.plan) (sym (put ∙ ap (add_line plan line) c)) in
+          let good : eqb (fault_of (add_line plan line true)) 0 ≡ true = eq-eqb _ _ (sym (as_ended true c) ∙ f) in
+          let next : plan_after plan (add_line plan line true) ≡ plan_after plan added = ap (plan_after plan) (sym (put ∙ ap (add_line plan line) c)) in
           closed_line c
-          ∙ ap (λ (t : Bool). cond t (add_lines (add_line plan line true).plan (number + 1) (lines_from text end.next)) (faulty number (add_line plan line true).fault)) good
+          ∙ ap (λ (t : Bool). cond t (add_lines (plan_after plan (add_line plan line true)) (number + 1) (lines_from text end.next)) (faulty number (fault_of (add_line plan line true)))) good
           ∙ ap (λ (p : Plan). add_lines p (number + 1) (lines_from text end.next)) next
 
 -- where reading stands: what is left decides what the whole text makes
@@ -196,7 +197,7 @@ begun text plan h e =
 
 -- a line that isn't faulty leads on, past it and not past the text
 module _ (text : List ℕ) (plan : Plan) (number at : ℕ) (r : Reading text plan number at) (end : Part) (here : end ≡ line_at text at)
-    (added : Added) (put : added ≡ add_line plan (slice at end.end text) end.closed) (fine : added.fault ≡ 0) where
+    (added : Result Plan Fault) (put : added ≡ add_line plan (slice at end.end text) end.closed) (fine : fault_of added ≡ 0) where
   pub onward : at < end.next
   onward =
       let closed = sym (ap (λ (p : Part). p.closed) here) ∙ turn_closed plan number text at end here added put fine in
@@ -205,7 +206,7 @@ module _ (text : List ℕ) (plan : Plan) (number at : ℕ) (r : Reading text pla
   pub within : end.next ≤ length text
   within = rw here (next_within lf text at (length text) r.inside (le_refl (length text)))
 
-  pub on : Reading text added.plan (number + 1) end.next
+  pub on : Reading text (plan_after plan added) (number + 1) end.next
   on =
       record {
         inside = within;

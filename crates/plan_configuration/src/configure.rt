@@ -1,15 +1,16 @@
 // A configuration read line by line.
 ghost use Rattle.std.specs.Prelude.{◌≡◌, ◌&&◌, leb};
 ghost use Rattle.std.proofs.Math.Seq.{slice};
+ghost use Rattle.plan_building.specs.Building.{number};
 ghost use Rattle.plan_configuration.specs.Configure as Configure;
 
 use plan::data::{Plan, empty_plan};
-use plan_building::Added;
+use plan_building::Fault;
 use plan_keywords::{Word, read_word};
 use plan_links::add_link;
 use plan_routes::add_route;
 use plan_sets::{add_node, add_set};
-use plan_statement::{Said, Statement, read_statement};
+use plan_statement::{Statement, read_statement};
 use text::part::{between, field};
 use text_lines::line_from;
 
@@ -27,7 +28,7 @@ pub fn configure(text: &[u8]) -> Configured
     ensures { result ≡ Configure.configured text.now }
 {
     if 16384 < text.len() {
-        return faulty(0, 24);
+        return faulty(0, Fault::Full);
     }
     let mut plan = empty_plan();
     let mut number = 1;
@@ -41,11 +42,10 @@ pub fn configure(text: &[u8]) -> Configured
                 plan,
             };
         }
-        let added = add_line(plan, text, at, end.end, end.closed);
-        if added.fault != 0 {
-            return faulty(number, added.fault);
+        match add_line(plan, text, at, end.end, end.closed) {
+            Ok(next) => plan = next,
+            Err(fault) => return faulty(number, fault),
         }
-        plan = added.plan;
         number += 1;
         at = end.next;
     }
@@ -59,24 +59,20 @@ fn is_done(given: bool, at: usize, length: usize) -> bool
 }
 
 // The line between two places of a text put into the plan.
-fn add_line(plan: Plan, text: &[u8], at: usize, to: usize, ended: bool) -> Added
+fn add_line(plan: Plan, text: &[u8], at: usize, to: usize, ended: bool) -> Result<Plan, Fault>
     ensures { result ≡ Configure.add_line plan (slice at to text.now) ended }
 {
-    if !plan.given {
-        if !is_node(first_word(text, at, to)) {
-            return Added { fault: 25, plan };
-        }
+    if !plan.given && !is_node(first_word(text, at, to)) {
+        return Err(Fault::NoNode);
     }
     if !ended {
-        return Added { fault: 20, plan };
+        return Err(Fault::WrongLine);
     }
-    match read_statement(text, at, to) {
-        Said::Says(statement) => add(plan, statement),
-        Said::Faulty(fault) => Added { fault, plan },
-    }
+    let statement = read_statement(text, at, to)?;
+    add(plan, statement)
 }
 
-fn add(plan: Plan, statement: Statement) -> Added
+fn add(plan: Plan, statement: Statement) -> Result<Plan, Fault>
     ensures { result ≡ Configure.add plan statement }
 {
     let word = statement.word;
@@ -88,35 +84,28 @@ fn add(plan: Plan, statement: Statement) -> Added
         Word::Set => add_set(plan, first, second),
         Word::Link => add_link(plan, first, second, third),
         Word::Route => add_route(plan, first, second, third),
-        Word::Other => Added { fault: 20, plan },
     }
 }
 
-fn first_word(text: &[u8], at: usize, to: usize) -> Word
+fn first_word(text: &[u8], at: usize, to: usize) -> Option<Word>
     ensures { result ≡ Configure.first_word (slice at to text.now) }
 {
     let first = field(text, at, to);
     read_word(between(text, at, first.end))
 }
 
-fn is_node(word: Word) -> bool
+fn is_node(word: Option<Word>) -> bool
     ensures { result ≡ Configure.is_node word }
 {
-    match word {
-        Word::Node => true,
-        Word::Set => false,
-        Word::Link => false,
-        Word::Route => false,
-        Word::Other => false,
-    }
+    matches!(word, Some(Word::Node))
 }
 
-fn faulty(line: usize, fault: u8) -> Configured
-    ensures { result ≡ Configure.faulty line fault }
+fn faulty(line: usize, fault: Fault) -> Configured
+    ensures { result ≡ Configure.faulty line (number fault) }
 {
     Configured {
         line,
-        fault,
+        fault: fault.number(),
         plan: empty_plan(),
     }
 }

@@ -14,9 +14,8 @@ use Rattle.plan.specs.Sound.{Sound, link_in}
 use Rattle.plan.proofs.Split.{split, both_false}
 use Rattle.plan_repeats.specs.Taken.{adjacent_taken, slc_taken, set_taken}
 use Rattle.plan_routes.specs.RouteLines.{route_taken}
-use Rattle.plan_building.specs.Building.{refused}
 use Rattle.plan_keywords.specs.declared.Word.{Word}
-use Rattle.plan_keywords.specs.declared.Word.TheVariants.{Node, Set, Link, Route, Other}
+use Rattle.plan_keywords.specs.declared.Word.TheVariants.{Node, Set, Link, Route}
 use Rattle.plan_configuration.specs.Configure.{is_node, add_by, configured}
 use Rattle.plan_configuration.proofs.Made.{configured_sound}
 use Rattle.plan_consistency.specs.Consistent.{InItsSet, Consistent}
@@ -25,66 +24,68 @@ use Rattle.plan_consistency.proofs.Leaves.{Leaves, choose, refuse, put_in, each_
 use Rattle.plan_consistency.proofs.Sets.{set_fits}
 use Rattle.plan_consistency.proofs.Links.{link_fits}
 use Rattle.plan_consistency.proofs.Routes.{known_fits, new_fits}
+use Rattle.plan_building.specs.declared.Fault.{Fault}
+use Rattle.plan_building.specs.declared.Fault.TheVariants.{OutOfRange, Repeat, NotGiven, Full}
+use Rattle.std.specs.Prelude.{Some, Err}
 
 known_true : (b : Bool) → not b ≡ false → b ≡ true
 known_true true e = refl
 known_true false e = absurd (true≢false e)
 
 module _ (plan : Plan) (sound : Sound plan) (fits : Fits plan) where
-  told : (fault : ℕ) → Leaves Fits (refused fault plan)
+  told : (fault : Fault) → Leaves Fits plan (Err fault)
   told = refuse Fits plan fits
 
-  by_word : (word : Word) → (is_node word ≡ false → plan.given ≡ true) → (a b c : ℕ) → Leaves Fits (add_by word plan a b c)
+  by_word : (word : Word) → (is_node (Some word) ≡ false → plan.given ≡ true) → (a b c : ℕ) → Leaves Fits plan (add_by word plan a b c)
   by_word Node has code ni c =
-      choose Fits (ltb 16383 code || ltb 3 ni) _ _ (λ e. told 21)
-      (λ e. choose Fits plan.given _ _ (λ f. told 22)
+      choose Fits plan (ltb 16383 code || ltb 3 ni) _ _ (λ e. told OutOfRange)
+      (λ e. choose Fits plan plan.given _ _ (λ f. told Repeat)
       (λ f.
       let empty = fits.node_first f in
-      put_in Fits _ (node_alone _ (ap (λ (p : Plan). p.sets) empty) (ap (λ (p : Plan). p.links) empty) (ap (λ (p : Plan). p.count) empty) (λ none. absurd (true≢false none)))))
+      put_in Fits plan _ (node_alone _ (ap (λ (p : Plan). p.sets) empty) (ap (λ (p : Plan). p.links) empty) (ap (λ (p : Plan). p.count) empty) (λ none. absurd (true≢false none)))))
   by_word Set has number adjacent c =
-      choose Fits (ltb 7 number || ltb 16383 adjacent) _ _ (λ e. told 21)
+      choose Fits plan (ltb 7 number || ltb 16383 adjacent) _ _ (λ e. told OutOfRange)
       (λ e.
       let within : number ≤ 7 = ltb-false 7 number (both_false (ltb 7 number) (ltb 16383 adjacent) e).0 in
-      choose Fits ((set_at plan number).given || (adjacent_taken plan.sets adjacent || eqb adjacent plan.code)) _ _ (λ f. told 22)
+      choose Fits plan ((set_at plan number).given || (adjacent_taken plan.sets adjacent || eqb adjacent plan.code)) _ _ (λ f. told Repeat)
       (λ f.
       let new = both_false (set_at plan number).given (adjacent_taken plan.sets adjacent || eqb adjacent plan.code) f in
       let free = both_false (adjacent_taken plan.sets adjacent) (eqb adjacent plan.code) new.1 in
-      put_in Fits _ (set_fits plan sound fits number adjacent (omega arith) (has refl) new.0 free.0 (eqb-false adjacent plan.code free.1))))
+      put_in Fits plan _ (set_fits plan sound fits number adjacent (omega arith) (has refl) new.0 free.0 (eqb-false adjacent plan.code free.1))))
   by_word Link has number those slc =
-      choose Fits (ltb 31 number || (ltb 7 those || ltb 15 slc)) _ _ (λ e. told 21)
+      choose Fits plan (ltb 31 number || (ltb 7 those || ltb 15 slc)) _ _ (λ e. told OutOfRange)
       (λ e.
       let range = both_false (ltb 31 number) (ltb 7 those || ltb 15 slc) e in
       let in_table : number ≤ 31 = ltb-false 31 number range.0 in
       let in_sets : those ≤ 7 = ltb-false 7 those (both_false (ltb 7 those) (ltb 15 slc) range.1).0 in
-      choose Fits (not (set_at plan those).given) _ _ (λ f. told 23)
-      (λ f. choose Fits ((link_at plan number).given || slc_taken plan (links_of plan those) slc) _ _ (λ g. told 22)
+      choose Fits plan (not (set_at plan those).given) _ _ (λ f. told NotGiven)
+      (λ f. choose Fits plan ((link_at plan number).given || slc_taken plan (links_of plan those) slc) _ _ (λ g. told Repeat)
       (λ g.
       let new = (both_false (link_at plan number).given (slc_taken plan (links_of plan those) slc) g).0 in
-      choose Fits (leb 8 (set_at plan those).count) _ _ (λ full. told 24)
+      choose Fits plan (leb 8 (set_at plan those).count) _ _ (λ full. told Full)
       (λ room.
-      put_in Fits _
+      put_in Fits plan _
       (link_fits plan sound fits number those slc (omega arith) (omega arith) (has refl) (known_true (set_at plan those).given f) new
       (leb-false 8 (set_at plan those).count room))))))
   by_word Route has destination those rank =
       let place = place_of plan destination in
-      choose Fits (ltb 16383 destination || (ltb 7 those || ltb 3 rank)) _ _ (λ e. told 21)
+      choose Fits plan (ltb 16383 destination || (ltb 7 those || ltb 3 rank)) _ _ (λ e. told OutOfRange)
       (λ e.
       let range = both_false (ltb 7 those) (ltb 3 rank) (both_false (ltb 16383 destination) (ltb 7 those || ltb 3 rank) e).1 in
       let in-ranks : rank ≤ 3 = ltb-false 3 rank range.1 in
-      choose Fits (not (set_at plan those).given) _ _ (λ f. told 23)
-      (λ f. choose Fits (eqb destination plan.code) _ _ (λ g. told 22)
+      choose Fits plan (not (set_at plan those).given) _ _ (λ f. told NotGiven)
+      (λ f. choose Fits plan (eqb destination plan.code) _ _ (λ g. told Repeat)
       (λ g.
       let known = known_true (set_at plan those).given f in
       let differs = eqb-false destination plan.code g in
-      choose Fits (is_found plan destination) _ _
-      (λ found. choose Fits (route_taken (routes_of plan place) those rank) _ _ (λ taken. told 22)
+      choose Fits plan (is_found plan destination) _ _
+      (λ found. choose Fits plan (route_taken (routes_of plan place) those rank) _ _ (λ taken. told Repeat)
       (λ free.
-      put_in Fits _
+      put_in Fits plan _
       (known_fits plan sound fits destination those rank (omega arith) (has refl) known differs found
       (both_false (set_taken (routes_of plan place) those) (get_or (routes_of plan place) rank absent_route).given free).0)))
-      (λ missing. choose Fits (leb 64 plan.count) _ _ (λ full. told 24)
-      (λ room. put_in Fits _ (new_fits plan sound fits destination those rank (omega arith) (has refl) known differs (leb-false 64 plan.count room)))))))
-  by_word Other has a b c = told 20
+      (λ missing. choose Fits plan (leb 64 plan.count) _ _ (λ full. told Full)
+      (λ room. put_in Fits plan _ (new_fits plan sound fits destination those rank (omega arith) (has refl) known differs (leb-false 64 plan.count room)))))))
 
 -- a plan that is sound and fits is consistent
 module _ (plan : Plan) (sound : Sound plan) (fits : Fits plan) where

@@ -21,13 +21,15 @@ use Rattle.plan_entries.proofs.InOrder.{inserted_each}
 use Rattle.plan_entries.proofs.Inserted.{inserted_length}
 use Rattle.plan_sets.specs.SetLines.{new_set}
 use Rattle.plan_routes.specs.RouteLines.{with_route, route_taken}
-use Rattle.plan_building.specs.Building.{refused}
 use Rattle.plan_keywords.specs.declared.Word.{Word}
-use Rattle.plan_keywords.specs.declared.Word.TheVariants.{Node, Set, Link, Route, Other}
+use Rattle.plan_keywords.specs.declared.Word.TheVariants.{Node, Set, Link, Route}
 use Rattle.plan_configuration.specs.Configure.{add_by, configured}
 use Rattle.plan_consistency.specs.Consistent.{InRange}
 use Rattle.plan_consistency.proofs.Fits.{same_all}
 use Rattle.plan_consistency.proofs.Leaves.{Leaves, choose, refuse, put_in, each_made}
+use Rattle.plan_building.specs.declared.Fault.{Fault}
+use Rattle.plan_building.specs.declared.Fault.TheVariants.{OutOfRange, Repeat, NotGiven, Full}
+use Rattle.std.specs.Prelude.{Err}
 
 -- what holds of each value and of a new one holds of each with the new one in its place
 set_each : {A : Type 0} (P : A → Type 0) (values : List A) (i : ℕ) (value none : A) → i < length values → P value
@@ -56,17 +58,17 @@ empty_range =
     }
 
 module _ (plan : Plan) (sound : Sound plan) (range : InRange plan) where
-  told : (fault : ℕ) → Leaves InRange (refused fault plan)
+  told : (fault : Fault) → Leaves InRange plan (Err fault)
   told = refuse InRange plan range
 
-  by_word : (word : Word) (a b c : ℕ) → Leaves InRange (add_by word plan a b c)
+  by_word : (word : Word) (a b c : ℕ) → Leaves InRange plan (add_by word plan a b c)
   by_word Node code ni c =
-      choose InRange (ltb 16383 code || ltb 3 ni) _ _ (λ e. told 21)
+      choose InRange plan (ltb 16383 code || ltb 3 ni) _ _ (λ e. told OutOfRange)
       (λ e.
       let within = both_false (ltb 16383 code) (ltb 3 ni) e in
-      choose InRange plan.given _ _ (λ f. told 22)
+      choose InRange plan plan.given _ _ (λ f. told Repeat)
       (λ f.
-      put_in InRange _
+      put_in InRange plan _
       (record {
         code_range = ltb-false 16383 code within.0;
         ni_range = ltb-false 3 ni within.1;
@@ -75,13 +77,13 @@ module _ (plan : Plan) (sound : Sound plan) (range : InRange plan) where
         destination_range = range.destination_range;
       })))
   by_word Set number adjacent c =
-      choose InRange (ltb 7 number || ltb 16383 adjacent) _ _ (λ e. told 21)
+      choose InRange plan (ltb 7 number || ltb 16383 adjacent) _ _ (λ e. told OutOfRange)
       (λ e.
       let within = both_false (ltb 7 number) (ltb 16383 adjacent) e in
       let inside : number ≤ 7 = ltb-false 7 number within.0 in
-      choose InRange ((set_at plan number).given || (adjacent_taken plan.sets adjacent || eqb adjacent plan.code)) _ _ (λ f. told 22)
+      choose InRange plan ((set_at plan number).given || (adjacent_taken plan.sets adjacent || eqb adjacent plan.code)) _ _ (λ f. told Repeat)
       (λ f.
-      put_in InRange _
+      put_in InRange plan _
       (record {
         code_range = range.code_range;
         ni_range = range.ni_range;
@@ -93,17 +95,17 @@ module _ (plan : Plan) (sound : Sound plan) (range : InRange plan) where
         destination_range = range.destination_range;
       })))
   by_word Link number those slc =
-      choose InRange (ltb 31 number || (ltb 7 those || ltb 15 slc)) _ _ (λ e. told 21)
+      choose InRange plan (ltb 31 number || (ltb 7 those || ltb 15 slc)) _ _ (λ e. told OutOfRange)
       (λ e.
       let first = both_false (ltb 31 number) (ltb 7 those || ltb 15 slc) e in
       let others = both_false (ltb 7 those) (ltb 15 slc) first.1 in
       let in_table : number ≤ 31 = ltb-false 31 number first.0 in
       let in_sets : those ≤ 7 = ltb-false 7 those others.0 in
-      choose InRange (not (set_at plan those).given) _ _ (λ f. told 23)
-      (λ f. choose InRange ((link_at plan number).given || slc_taken plan (links_of plan those) slc) _ _ (λ g. told 22)
-      (λ g. choose InRange (leb 8 (set_at plan those).count) _ _ (λ full. told 24)
+      choose InRange plan (not (set_at plan those).given) _ _ (λ f. told NotGiven)
+      (λ f. choose InRange plan ((link_at plan number).given || slc_taken plan (links_of plan those) slc) _ _ (λ g. told Repeat)
+      (λ g. choose InRange plan (leb 8 (set_at plan those).count) _ _ (λ full. told Full)
       (λ room.
-      put_in InRange _
+      put_in InRange plan _
       (record {
         code_range = range.code_range;
         ni_range = range.ni_range;
@@ -116,15 +118,15 @@ module _ (plan : Plan) (sound : Sound plan) (range : InRange plan) where
       })))))
   by_word Route destination those rank =
       let place = place_of plan destination in
-      choose InRange (ltb 16383 destination || (ltb 7 those || ltb 3 rank)) _ _ (λ e. told 21)
+      choose InRange plan (ltb 16383 destination || (ltb 7 those || ltb 3 rank)) _ _ (λ e. told OutOfRange)
       (λ e.
       let code : destination ≤ 16383 = ltb-false 16383 destination (both_false (ltb 16383 destination) (ltb 7 those || ltb 3 rank) e).0 in
-      choose InRange (not (set_at plan those).given) _ _ (λ f. told 23)
-      (λ f. choose InRange (eqb destination plan.code) _ _ (λ g. told 22)
-      (λ g. choose InRange (is_found plan destination) _ _
-      (λ found. choose InRange (route_taken (routes_of plan place) those rank) _ _ (λ taken. told 22)
+      choose InRange plan (not (set_at plan those).given) _ _ (λ f. told NotGiven)
+      (λ f. choose InRange plan (eqb destination plan.code) _ _ (λ g. told Repeat)
+      (λ g. choose InRange plan (is_found plan destination) _ _
+      (λ found. choose InRange plan (route_taken (routes_of plan place) those rank) _ _ (λ taken. told Repeat)
       (λ free.
-      put_in InRange _
+      put_in InRange plan _
       (record {
         code_range = range.code_range;
         ni_range = range.ni_range;
@@ -136,10 +138,10 @@ module _ (plan : Plan) (sound : Sound plan) (range : InRange plan) where
             code
             range.destination_range);
       })))
-      (λ missing. choose InRange (leb 64 plan.count) _ _ (λ full. told 24)
+      (λ missing. choose InRange plan (leb 64 plan.count) _ _ (λ full. told Full)
       (λ room.
       let few : plan.count < 64 = leb-false 64 plan.count room in
-      put_in InRange _
+      put_in InRange plan _
       (record {
         code_range = range.code_range;
         ni_range = range.ni_range;
@@ -152,7 +154,6 @@ module _ (plan : Plan) (sound : Sound plan) (range : InRange plan) where
             (omega arith)
             range.destination_range);
       }))))))
-  by_word Other a b c = told 20
 
 pub configured_in_range : (text : List ℕ) → InRange (configured text).plan
 configured_in_range = each_made InRange empty_range (λ plan sound range word has. by_word plan sound range word)

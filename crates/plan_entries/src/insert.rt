@@ -1,41 +1,17 @@
 // A value put in among the values of an array.
 ghost use Rattle.std.specs.Prelude.{◌≡◌};
-ghost use Rattle.plan_entries.specs.Insert.{inserted};
+ghost use Rattle.plan_entries.specs.Insert as Insert;
 
-use plan::data::Destination;
-
-// The links of a set with one more at a place.
-pub fn insert_link(links: [u8; 8], place: usize, link: u8) -> [u8; 8]
-    ensures { result ≡ inserted place link links }
+// The values with one more at a place: those from there on move up by one, and the last falls off.
+pub fn inserted<T: Copy, const N: usize>(values: [T; N], place: usize, value: T) -> [T; N]
+    ensures { result ≡ Insert.inserted place value values }
 {
-    let mut values = links;
-    let mut value = link;
-    let mut i = place;
-    while i < 8 {
-        let pushed = values[i];
-        values[i] = value;
-        value = pushed;
-        i += 1;
-    }
-    values
-}
-
-// The destinations with one more at a place.
-pub fn insert_destination(
-    destinations: [Destination; 64],
-    place: usize,
-    destination: Destination,
-) -> [Destination; 64]
-    ensures { result ≡ inserted place destination destinations }
-{
-    let mut table = destinations;
-    let mut value = destination;
-    let mut at = place;
-    while at < 64 {
+    let mut table = values;
+    let mut moved = value;
+    for at in place..N {
         let pushed = table[at];
-        table[at] = value;
-        value = pushed;
-        at += 1;
+        table[at] = moved;
+        moved = pushed;
     }
     table
 }

@@ -17,14 +17,15 @@ use Rattle.plan_faults.specs.Told.{lines_in, lines_of}
 use Rattle.plan_faults.proofs.Lines.{split_some}
 use Rattle.plan_faults.proofs.Node.{has_node, end_faulty}
 use Rattle.plan_faults.proofs.Reading.{made}
+use Rattle.plan_building.specs.Building.{fault_of, plan_after}
 
 -- what stands behind the last LF, if it is a line
 last_made : (plan : Plan) (number : ℕ) (last : List ℕ)
-    → faulty number (add_line plan last false).fault ≡ made plan number (record { octets = last; ended = false } ∷ [])
+    → faulty number (fault_of (add_line plan last false)) ≡ made plan number (record { octets = last; ended = false } ∷ [])
 unfolding made
 last_made plan number last =
-    let n = (add_line plan last false).fault in
-    sym (ap (λ (t : Bool). cond t (done (add_line plan last false).plan) (faulty number n)) (ne_eqb n 0 (end_faulty plan last)))
+    let n = fault_of (add_line plan last false) in
+    sym (ap (λ (t : Bool). cond t (done (plan_after plan (add_line plan last false))) (faulty number n)) (ne_eqb n 0 (end_faulty plan last)))
 
 -- nothing, and no line before it
 alone : List (List ℕ) → Bool
@@ -36,17 +37,17 @@ lines_made : (parts : List (List ℕ)) (plan : Plan) (number : ℕ) → (plan.gi
     → add_lines plan number parts ≡ made plan number (lines_in parts)
 unfolding add_lines made lines_in alone
 lines_made [] plan number h = refl
-lines_made ([] ∷ []) plan number (inl given) = ap (λ (t : Bool). cond (t && true) (done plan) (faulty number (add_line plan [] false).fault)) given
+lines_made ([] ∷ []) plan number (inl given) = ap (λ (t : Bool). cond (t && true) (done plan) (faulty number (fault_of (add_line plan [] false)))) given
 lines_made ([] ∷ []) plan number (inr some) = absurd (true≢false some)
 lines_made ((x ∷ last) ∷ []) plan number h =
     cases plan.given
-    (λ e. ap (λ (t : Bool). cond (t && false) (done plan) (faulty number (add_line plan (x ∷ last) false).fault)) e ∙ last_made plan number (x ∷ last))
-    (λ e. ap (λ (t : Bool). cond (t && false) (done plan) (faulty number (add_line plan (x ∷ last) false).fault)) e ∙ last_made plan number (x ∷ last))
+    (λ e. ap (λ (t : Bool). cond (t && false) (done plan) (faulty number (fault_of (add_line plan (x ∷ last) false)))) e ∙ last_made plan number (x ∷ last))
+    (λ e. ap (λ (t : Bool). cond (t && false) (done plan) (faulty number (fault_of (add_line plan (x ∷ last) false)))) e ∙ last_made plan number (x ∷ last))
 lines_made (line ∷ second ∷ more) plan number h =
     let added = add_line plan line true in
-    cases (eqb added.fault 0)
+    cases (eqb (fault_of added) 0)
     (λ yes.
-    simp yes (lines_made (second ∷ more) added.plan (number + 1) (inl (has_node plan line true (eqb-true added.fault 0 yes)))))
+    simp yes (lines_made (second ∷ more) (plan_after plan added) (number + 1) (inl (has_node plan line true (eqb-true (fault_of added) 0 yes)))))
     (λ no. simp no)
 
 -- a text with octets has a line

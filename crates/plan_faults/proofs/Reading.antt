@@ -23,18 +23,19 @@ use Rattle.plan_faults.specs.Told.{with_line, Reads, no_more, is_faulty, faultle
 use Rattle.plan_faults.proofs.EachLine.{each_line}
 use Rattle.plan_faults.proofs.Lines.{fault_when, faultless_when, rows_over}
 use Rattle.plan_faults.proofs.Node.{has_node}
+use Rattle.plan_building.specs.Building.{fault_of, plan_after}
 
 -- what some lines make, each by what it is put in as
 unfoldable pub made : Plan → ℕ → List Line → Configured
 made plan number [] = done plan
 made plan number (line ∷ later) =
     let added = add_line plan line.octets line.ended in
-    cond (eqb added.fault 0) (made added.plan (number + 1) later) (faulty number added.fault)
+    cond (eqb (fault_of added) 0) (made (plan_after plan added) (number + 1) later) (faulty number (fault_of added))
 
 -- a line keeps a plan sound
 line_sound : (plan : Plan) → Sound plan → (line : Line) → Sound (with_line plan line)
 line_sound plan sound line =
-    each_line (λ added. Sound added.plan) plan (λ fault over. sound)
+    each_line (λ added. Sound (plan_after plan added)) plan (λ fault. sound)
     (λ word has a b c. (added_sound plan sound (record { word = word; first = a; second = b; third = c })).still_sound)
     line.octets
     line.ended
@@ -54,7 +55,7 @@ over number plan line n gives = ltb-true 0 n (gives_of (λ (n : ℕ). ltb 0 n) (
 
 module _ (plan : Plan) (number : ℕ) (line : Line) (stage : Stage number plan) where
   abbrev fault : ℕ
-  fault = (add_line plan line.octets line.ended).fault
+  fault = fault_of (add_line plan line.octets line.ended)
 
   pub next_stage : fault ≡ 0 → Stage (number + 1) (with_line plan line)
   next_stage e =

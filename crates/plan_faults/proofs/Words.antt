@@ -19,17 +19,19 @@ use Rattle.plan.proofs.Found.{found_stands}
 use Rattle.replies.specs.Reply.{Row, row, first}
 use Rattle.plan_repeats.specs.Search.{one}
 use Rattle.plan_repeats.specs.Taken.{set_taken}
-use Rattle.plan_building.specs.Building.{refused, accepted}
+use Rattle.plan_building.specs.Building.{fault_of}
 use Rattle.plan_sets.specs.SetLines.{add_node, add_set}
 use Rattle.plan_links.specs.LinkLines.{add_link}
 use Rattle.plan_routes.specs.RouteLines.{add_route}
 use Rattle.plan_faults.specs.Given.{node_given, is_ours, set_given, adjacent_given, link_given, slc_given, set_full, destinations_of, destination_given, route_by_set, route_of_rank, destinations_full}
 use Rattle.plan_faults.proofs.Destinations.{found_one, missing_one}
+use Rattle.plan_building.specs.declared.Fault.TheVariants.{OutOfRange, Repeat, NotGiven, Full}
+use Rattle.std.specs.Prelude.{Ok, Err}
 
 -- the tests of each in their order, whatever they say and whatever plan is made
 module _ (plan : Plan) where
   node_order : (next : Plan) (a b given : Bool)
-      → (cond (a || b) (refused 21 plan) (cond given (refused 22 plan) (accepted next))).fault ≡ first (row 21 a ∷ row 21 b ∷ row 22 given ∷ [])
+      → fault_of (cond (a || b) (Err OutOfRange) (cond given (Err Repeat) (Ok next))) ≡ first (row 21 a ∷ row 21 b ∷ row 22 given ∷ [])
   unfolding first
   node_order next true b given = refl
   node_order next false true given = refl
@@ -37,7 +39,7 @@ module _ (plan : Plan) where
   node_order next false false false = refl
 
   set_order : (next : Plan) (a b given taken ours : Bool)
-      → (cond (a || b) (refused 21 plan) (cond (given || (taken || ours)) (refused 22 plan) (accepted next))).fault
+      → fault_of (cond (a || b) (Err OutOfRange) (cond (given || (taken || ours)) (Err Repeat) (Ok next)))
       ≡ first (row 21 a ∷ row 21 b ∷ row 22 given ∷ row 22 taken ∷ row 22 ours ∷ [])
   unfolding first
   set_order next true b given taken ours = refl
@@ -48,8 +50,8 @@ module _ (plan : Plan) where
   set_order next false false false false false = refl
 
   link_order : (next : Plan) (a b c unknown given taken full : Bool)
-      → (cond (a || (b || c)) (refused 21 plan)
-      (cond unknown (refused 23 plan) (cond (given || taken) (refused 22 plan) (cond full (refused 24 plan) (accepted next))))).fault
+      → fault_of (cond (a || (b || c)) (Err OutOfRange)
+      (cond unknown (Err NotGiven) (cond (given || taken) (Err Repeat) (cond full (Err Full) (Ok next)))))
       ≡ first (row 21 a ∷ row 21 b ∷ row 21 c ∷ row 23 unknown ∷ row 22 given ∷ row 22 taken ∷ row 24 full ∷ [])
   unfolding first
   link_order next true b c unknown given taken full = refl
@@ -62,10 +64,10 @@ module _ (plan : Plan) where
   link_order next false false false false false false false = refl
 
   route_order : (known new : Plan) (a b c unknown ours found by-set of-rank full : Bool)
-      → (cond (a || (b || c)) (refused 21 plan)
-      (cond unknown (refused 23 plan)
-      (cond ours (refused 22 plan)
-      (cond found (cond (by-set || of-rank) (refused 22 plan) (accepted known)) (cond full (refused 24 plan) (accepted new)))))).fault
+      → fault_of (cond (a || (b || c)) (Err OutOfRange)
+      (cond unknown (Err NotGiven)
+      (cond ours (Err Repeat)
+      (cond found (cond (by-set || of-rank) (Err Repeat) (Ok known)) (cond full (Err Full) (Ok new))))))
       ≡ first (row 21 a ∷ row 21 b ∷ row 21 c ∷ row 23 unknown ∷ row 22 ours ∷ row 22 (found && by-set) ∷ row 22 (found && of-rank) ∷ row 24 (not found && full) ∷ [])
   unfolding first
   route_order known new true b c unknown ours found by-set of-rank full = refl
@@ -105,14 +107,14 @@ destinations_full_lem plan sound =
 
 -- `node`, `set`, `link`
 module _ (plan : Plan) (a b : ℕ) where
-  pub node_fault : (add_node plan a b).fault ≡ first (row 21 (ltb 16383 a) ∷ row 21 (ltb 3 b) ∷ row 22 (node_given plan) ∷ [])
+  pub node_fault : fault_of (add_node plan a b) ≡ first (row 21 (ltb 16383 a) ∷ row 21 (ltb 3 b) ∷ row 22 (node_given plan) ∷ [])
   node_fault = node_order plan _ (ltb 16383 a) (ltb 3 b) plan.given
 
-  pub set_fault : (add_set plan a b).fault
+  pub set_fault : (fault_of (add_set plan a b))
       ≡ first (row 21 (ltb 7 a) ∷ row 21 (ltb 16383 b) ∷ row 22 (set_given plan a) ∷ row 22 (adjacent_given plan b) ∷ row 22 (is_ours plan b) ∷ [])
   set_fault = set_order plan _ (ltb 7 a) (ltb 16383 b) (set_given plan a) (adjacent_given plan b) (is_ours plan b)
 
-  pub link_fault : Sound plan → (c : ℕ) → (add_link plan a b c).fault
+  pub link_fault : Sound plan → (c : ℕ) → fault_of (add_link plan a b c)
       ≡ first (row 21 (ltb 31 a) ∷ row 21 (ltb 7 b) ∷ row 21 (ltb 15 c) ∷ row 23 (not (set_given plan b)) ∷ row 22 (link_given plan a) ∷ row 22 (slc_given plan b c) ∷ row 24 (set_full plan b) ∷ [])
   link_fault sound c =
       let rows : Bool → List Row =
@@ -148,7 +150,7 @@ module _ (plan : Plan) (sound : Sound plan) (code : ℕ) where
       (λ missing. missing_one plan sound code (λ (d : Destination). eqb d.code code) (λ d. eqb-true d.code code) missing ∙ sym missing)
 
   -- `route`
-  pub route_fault : (b c : ℕ) → (add_route plan code b c).fault
+  pub route_fault : (b c : ℕ) → fault_of (add_route plan code b c)
       ≡ first (row 21 (ltb 16383 code) ∷ row 21 (ltb 7 b) ∷ row 21 (ltb 3 c) ∷ row 23 (not (set_given plan b)) ∷ row 22 (is_ours plan code) ∷ row 22 (route_by_set plan code b) ∷ row 22 (route_of_rank plan code c) ∷ row 24 (destinations_full plan code) ∷ [])
   route_fault b c =
       let routes = routes_of plan (place_of plan code) in

@@ -1,11 +1,11 @@
 -- The faults that can apply to a line of a configuration, in the paper's order, each with its condition: "the first of its faults here" (R164).
-use Rattle.std.specs.Prelude.{ℕ, Bool, true, false, not, ◌&&◌, ◌||◌, List, [], ◌∷◌, length, get_or, eqb, leb}
+use Rattle.std.specs.Prelude.{ℕ, Bool, true, false, not, ◌&&◌, ◌||◌, List, [], ◌∷◌, length, get_or, eqb, leb, Option, Some, None}
 use Rattle.text.specs.Part.{split, tab}
 use Rattle.text_decimals.specs.Decimal.{is_plain, value_on}
 use Rattle.plan.specs.declared.data.Plan.{Plan}
 use Rattle.replies.specs.Reply.{Row, row}
 use Rattle.plan_keywords.specs.declared.Word.{Word}
-use Rattle.plan_keywords.specs.declared.Word.TheVariants.{Node, Set, Link, Route, Other}
+use Rattle.plan_keywords.specs.declared.Word.TheVariants.{Node, Set, Link, Route}
 use Rattle.plan_keywords.specs.StatementWords.{fields_of}
 use Rattle.plan_configuration.specs.Configure.{first_word, is_node}
 use Rattle.plan_faults.specs.Given.{node_given, is_ours, set_given, adjacent_given, link_given, slc_given, set_full, route_by_set, route_of_rank, destinations_full}
@@ -31,12 +31,14 @@ abbrev pub is_out : List ℕ → ℕ → Bool
 is_out digits top = not (is_plain digits && leb (value digits) top)
 
 -- none of the four words (R161)
-abbrev pub is_unknown : Word → Bool
-is_unknown Node = false
-is_unknown Set = false
-is_unknown Link = false
-is_unknown Route = false
-is_unknown Other = true
+abbrev pub is_unknown : Option Word → Bool
+is_unknown (Some word) = false
+is_unknown None = true
+
+-- another number of fields than a line with the word has; none is right where it is none of the four words (R166)
+abbrev pub is_miscounted : Option Word → ℕ → Bool
+is_miscounted (Some word) count = not (eqb count (fields_of word))
+is_miscounted None count = true
 
 -- `node code ni`: "22 a repeat (node line" (R169)
 abbrev pub node_faults : Plan → List ℕ → List ℕ → List Row
@@ -82,12 +84,12 @@ route_faults plan destination those rank =
     ∷ []
 
 -- 21, 23, 22 and 24 by the word of the line and the fields behind it
-unfoldable pub faults_by : Word → Plan → List ℕ → List ℕ → List ℕ → List Row
-faults_by Node plan code ni none = node_faults plan code ni
-faults_by Set plan number adjacent none = set_faults plan number adjacent
-faults_by Link plan number those slc = link_faults plan number those slc
-faults_by Route plan destination those rank = route_faults plan destination those rank
-faults_by Other plan first second third = []
+unfoldable pub faults_by : Option Word → Plan → List ℕ → List ℕ → List ℕ → List Row
+faults_by (Some Node) plan code ni none = node_faults plan code ni
+faults_by (Some Set) plan number adjacent none = set_faults plan number adjacent
+faults_by (Some Link) plan number those slc = link_faults plan number those slc
+faults_by (Some Route) plan destination those rank = route_faults plan destination those rank
+faults_by None plan first second third = []
 
 -- a line by its number in the text, on the plan that the lines above it made: "25 the first word of line 1 isn't `node`" (R165); "20 wrong
 -- word, field count or no LF" (R159, R166); then the others
@@ -96,7 +98,7 @@ faults_of number plan line =
     let word = first_word line.octets in
     row 25 (eqb number 1 && not (is_node word))
     ∷ row 20 (is_unknown word)
-    ∷ row 20 (not (eqb (length (fields line)) (fields_of word)))
+    ∷ row 20 (is_miscounted word (length (fields line)))
     ∷ row 20 (not line.ended)
     ∷ faults_by word plan (field line 1) (field line 2) (field line 3)
 

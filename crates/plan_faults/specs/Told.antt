@@ -7,6 +7,7 @@ use Rattle.plan_configuration.specs.declared.configure.Configured.{Configured}
 use Rattle.plan_configuration.specs.Configure.{add_line, done, faulty}
 use Rattle.replies_given.specs.GivenWhen.{Gives, None}
 use Rattle.plan_faults.specs.Faults.{Line, faults_of}
+use Rattle.plan_building.specs.Building.{plan_after}
 
 -- "Lines .., each ended by LF" (R159): what stands behind the last LF is a line without one, and nothing is none
 unfoldable pub lines_in : List (List ℕ) → List Line
@@ -20,7 +21,7 @@ lines_of text = cond (is_empty text) (record { octets = []; ended = false } ∷ 
 
 -- the plan with a line
 abbrev pub with_line : Plan → Line → Plan
-with_line plan line = (add_line plan line.octets line.ended).plan
+with_line plan line = plan_after plan (add_line plan line.octets line.ended)
 
 -- what is told of some lines, the first of which has this number, on the plan that the lines above made
 pub data Reads : Plan → ℕ → List Line → Configured → Type 0 where

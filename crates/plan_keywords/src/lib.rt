@@ -13,29 +13,28 @@ pub enum Word {
     Set,
     Link,
     Route,
-    Other,
 }
 
-// The word that a text is.
-pub fn read_word(text: &[u8]) -> Word
+// The word that a text is, if it is one.
+pub fn read_word(text: &[u8]) -> Option<Word>
     ensures { result ≡ Words.word_of text.now }
 {
     if same(text, b"node") {
-        return Word::Node;
+        return Some(Word::Node);
     }
     if same(text, b"set") {
-        return Word::Set;
+        return Some(Word::Set);
     }
     if same(text, b"link") {
-        return Word::Link;
+        return Some(Word::Link);
     }
     if same(text, b"route") {
-        return Word::Route;
+        return Some(Word::Route);
     }
-    Word::Other
+    None
 }
 
-// How many fields a line with the word has, the word among them; 0 where there is no such line.
+// How many fields a line with the word has, the word among them.
 pub fn fields(word: Word) -> u8
     ensures { result ≡ Words.fields_of word }
 {
@@ -44,6 +43,5 @@ pub fn fields(word: Word) -> u8
         Word::Set => 3,
         Word::Link => 4,
         Word::Route => 4,
-        Word::Other => 0,
     }
 }

@@ -19,6 +19,7 @@ use Rattle.plan.proofs.Split.{both_false}
 use Rattle.plan_building.proofs.SetKept.{set_linked}
 use Rattle.plan_building.proofs.Kept.{choose, refuse, accept}
 use Rattle.plan_links.proofs.LinkKept.{holds_still, holds_more}
+use Rattle.plan_building.specs.declared.Fault.TheVariants.{OutOfRange, Repeat, NotGiven, Full}
 
 module _ (plan : Plan) (sound : Sound plan) (number those slc : ℕ) where
   -- a link is put in that wasn't given, with an SLC that its set didn't have
@@ -38,14 +39,14 @@ module _ (plan : Plan) (sound : Sound plan) (number those slc : ℕ) where
 
   pub link_kept : Kept plan (add_link plan number those slc)
   link_kept =
-      choose plan (ltb 31 number || (ltb 7 those || ltb 15 slc)) _ _ (λ e. refuse plan sound 21)
+      choose plan (ltb 31 number || (ltb 7 those || ltb 15 slc)) _ _ (λ e. refuse plan sound OutOfRange)
       (λ e.
       let range = both_false (ltb 31 number) (ltb 7 those || ltb 15 slc) e in
       let in_table : number ≤ 31 = ltb-false 31 number range.0 in
       let in_sets : those ≤ 7 = ltb-false 7 those (both_false (ltb 7 those) (ltb 15 slc) range.1).0 in
-      choose plan (not (set_at plan those).given) _ _ (λ f. refuse plan sound 23)
-      (λ f. choose plan ((link_at plan number).given || slc_taken plan (links_of plan those) slc) _ _ (λ g. refuse plan sound 22)
+      choose plan (not (set_at plan those).given) _ _ (λ f. refuse plan sound NotGiven)
+      (λ f. choose plan ((link_at plan number).given || slc_taken plan (links_of plan those) slc) _ _ (λ g. refuse plan sound Repeat)
       (λ g.
       let fresh = both_false (link_at plan number).given (slc_taken plan (links_of plan those) slc) g in
-      choose plan (leb 8 (set_at plan those).count) _ _ (λ full. refuse plan sound 24)
+      choose plan (leb 8 (set_at plan those).count) _ _ (λ full. refuse plan sound Full)
       (λ room. accept plan _ (link_sound (omega arith) (omega arith) fresh.0 fresh.1 (leb-false 8 (set_at plan those).count room))))))

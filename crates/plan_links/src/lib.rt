@@ -5,32 +5,34 @@ ghost use Rattle.std.specs.Prelude.{◌≡◌};
 ghost use Rattle.plan_links.specs.LinkLines as LinkLines;
 
 use plan::data::{Link, LinkSet, Plan};
-use plan_building::Added;
-use plan_entries::insert::insert_link;
-use plan_repeats::taken::among;
+use plan_building::Fault;
+use plan_entries::insert::inserted;
+use plan_repeats::taken::place_among;
 
-pub fn add_link(plan: Plan, number: u64, set: u64, slc: u64) -> Added
+pub fn add_link(plan: Plan, number: u64, set: u64, slc: u64) -> Result<Plan, Fault>
     ensures { result ≡ LinkLines.add_link plan number set slc }
 {
     if 31 < number || 7 < set || 15 < slc {
-        return Added { fault: 21, plan };
+        return Err(Fault::OutOfRange);
     }
     let n = number as usize;
     let s = set as usize;
     let those = plan.sets[s];
     if !those.given {
-        return Added { fault: 23, plan };
+        return Err(Fault::NotGiven);
     }
     let link = plan.links[n];
-    let around = among(plan, s, slc as u8);
-    if link.given || around.taken {
-        return Added { fault: 22, plan };
+    if link.given {
+        return Err(Fault::Repeat);
     }
+    let Some(place) = place_among(plan, s, slc as u8) else {
+        return Err(Fault::Repeat);
+    };
     if 8 <= those.count {
-        return Added { fault: 24, plan };
+        return Err(Fault::Full);
     }
     let before = those.links;
-    let links = insert_link(before, around.lower, number as u8);
+    let links = inserted(before, place, number as u8);
     let mut next = plan;
     next.links[n] = Link {
         given: true,
@@ -43,8 +45,5 @@ pub fn add_link(plan: Plan, number: u64, set: u64, slc: u64) -> Added
         count: those.count + 1,
         links,
     };
-    Added {
-        fault: 0,
-        plan: next,
-    }
+    Ok(next)
 }

@@ -17,6 +17,7 @@ use Rattle.plan.proofs.Found.{parted, found_stands, stands_found}
 use Rattle.plan.proofs.Sound.{Listed, sound_of, linked, listed}
 use Rattle.plan_building.proofs.Kept.{choose, refuse, accept}
 use Rattle.plan_routes.proofs.DestinationKept.{known_listed, new_listed}
+use Rattle.plan_building.specs.declared.Fault.TheVariants.{OutOfRange, Repeat, NotGiven, Full}
 
 module _ (plan : Plan) (sound : Sound plan) (destination those rank : ℕ) where
   abbrev place : ℕ
@@ -49,10 +50,10 @@ module _ (plan : Plan) (sound : Sound plan) (destination those rank : ℕ) where
 
   pub route_kept : Kept plan (add_route plan destination those rank)
   route_kept =
-      choose plan (ltb 16383 destination || (ltb 7 those || ltb 3 rank)) _ _ (λ e. refuse plan sound 21)
-      (λ e. choose plan (not (set_at plan those).given) _ _ (λ f. refuse plan sound 23)
-      (λ f. choose plan (eqb destination plan.code) _ _ (λ g. refuse plan sound 22)
+      choose plan (ltb 16383 destination || (ltb 7 those || ltb 3 rank)) _ _ (λ e. refuse plan sound OutOfRange)
+      (λ e. choose plan (not (set_at plan those).given) _ _ (λ f. refuse plan sound NotGiven)
+      (λ f. choose plan (eqb destination plan.code) _ _ (λ g. refuse plan sound Repeat)
       (λ g. choose plan (is_found plan destination) _ _
-      (λ found. choose plan (route_taken (routes_of plan place) those rank) _ _ (λ taken. refuse plan sound 22) (λ free. accept plan _ (known_sound found)))
-      (λ missing. choose plan (leb 64 plan.count) _ _ (λ full. refuse plan sound 24)
+      (λ found. choose plan (route_taken (routes_of plan place) those rank) _ _ (λ taken. refuse plan sound Repeat) (λ free. accept plan _ (known_sound found)))
+      (λ missing. choose plan (leb 64 plan.count) _ _ (λ full. refuse plan sound Full)
       (λ room. accept plan _ (new_sound missing (leb-false 64 plan.count room)))))))

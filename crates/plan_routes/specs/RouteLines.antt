@@ -1,13 +1,13 @@
 -- A route line put into the plan: to a destination that is given, or to a new one.
-use Rattle.std.specs.Prelude.{ℕ, ◌+◌, Bool, true, cond, not, ◌||◌, List, get_or, set, replicate, eqb, ltb, leb}
+use Rattle.std.specs.Prelude.{ℕ, ◌+◌, Bool, true, cond, not, ◌||◌, List, get_or, set, replicate, eqb, ltb, leb, Result, Ok, Err}
 use Rattle.plan.specs.declared.data.Plan.{Plan}
 use Rattle.plan.specs.declared.data.Route.{Route}
-use Rattle.plan_building.specs.declared.Added.{Added}
 use Rattle.plan.specs.Data.{absent_route, set_at, routes_of}
 use Rattle.plan.specs.Find.{place_of, is_found}
 use Rattle.plan_repeats.specs.Taken.{set_taken}
 use Rattle.plan_entries.specs.Insert.{inserted}
-use Rattle.plan_building.specs.Building.{refused, accepted}
+use Rattle.plan_building.specs.declared.Fault.{Fault}
+use Rattle.plan_building.specs.declared.Fault.TheVariants.{OutOfRange, Repeat, NotGiven, Full}
 
 -- "destination with the same set or rank" (R172)
 abbrev pub route_taken : List Route → ℕ → ℕ → Bool
@@ -33,10 +33,10 @@ known_route plan place destination those rank =
     }
 
 -- "22 a repeat (.. destination with the same set or rank)" (R172)
-abbrev pub add_known : Plan → ℕ → ℕ → ℕ → ℕ → Added
+abbrev pub add_known : Plan → ℕ → ℕ → ℕ → ℕ → Result Plan Fault
 add_known plan place destination those rank =
-    cond (route_taken (routes_of plan place) those rank) (refused 22 plan)
-    (accepted (known_route plan place destination those rank))
+    cond (route_taken (routes_of plan place) those rank) (Err Repeat)
+    (Ok (known_route plan place destination those rank))
 
 -- the first route of a destination, which is put in at its place
 abbrev pub new_route : Plan → ℕ → ℕ → ℕ → ℕ → Plan
@@ -55,11 +55,11 @@ new_route plan place destination those rank =
     }
 
 -- `route destination set rank` (R11, R12, R14, R164, R168, R173, R174)
-abbrev pub add_route : Plan → ℕ → ℕ → ℕ → Added
+abbrev pub add_route : Plan → ℕ → ℕ → ℕ → Result Plan Fault
 add_route plan destination those rank =
-    cond (ltb 16383 destination || (ltb 7 those || ltb 3 rank)) (refused 21 plan)
-    (cond (not (set_at plan those).given) (refused 23 plan)
-    (cond (eqb destination plan.code) (refused 22 plan)
+    cond (ltb 16383 destination || (ltb 7 those || ltb 3 rank)) (Err OutOfRange)
+    (cond (not (set_at plan those).given) (Err NotGiven)
+    (cond (eqb destination plan.code) (Err Repeat)
     (cond (is_found plan destination) (add_known plan (place_of plan destination) destination those rank)
-    (cond (leb 64 plan.count) (refused 24 plan)
-    (accepted (new_route plan (place_of plan destination) destination those rank))))))
+    (cond (leb 64 plan.count) (Err Full)
+    (Ok (new_route plan (place_of plan destination) destination those rank))))))

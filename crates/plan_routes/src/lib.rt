@@ -2,42 +2,41 @@
 #![tactic(auto)]
 
 ghost use Rattle.std.specs.Prelude.{◌≡◌, ◌<◌};
-ghost use Rattle.plan_building.specs.Building.{accepted};
 ghost use Rattle.plan_routes.specs.RouteLines as RouteLines;
 
 use plan::data::{Destination, Plan, Route};
 use plan::find::find;
-use plan_building::Added;
-use plan_entries::insert::insert_destination;
+use plan_building::Fault;
+use plan_entries::insert::inserted;
 use plan_repeats::taken::set_taken;
 
-pub fn add_route(plan: Plan, destination: u64, set: u64, rank: u64) -> Added
+pub fn add_route(plan: Plan, destination: u64, set: u64, rank: u64) -> Result<Plan, Fault>
     ensures { result ≡ RouteLines.add_route plan destination set rank }
 {
     if 16383 < destination || 7 < set || 3 < rank {
-        return Added { fault: 21, plan };
+        return Err(Fault::OutOfRange);
     }
     let s = set as usize;
     let code = destination as u16;
     let those = plan.sets[s];
     if !those.given {
-        return Added { fault: 23, plan };
+        return Err(Fault::NotGiven);
     }
     if code == plan.code {
-        return Added { fault: 22, plan };
+        return Err(Fault::Repeat);
     }
     let found = find(plan, code);
     if found.given {
         return known_route(plan, found.place, code, set as u8, rank as usize);
     }
     if 64 <= plan.count {
-        return Added { fault: 24, plan };
+        return Err(Fault::Full);
     }
     new_route(plan, found.place, code, set as u8, rank as usize)
 }
 
 // One more route of the destination that stands at a place.
-fn known_route(plan: Plan, place: usize, code: u16, set: u8, rank: usize) -> Added
+fn known_route(plan: Plan, place: usize, code: u16, set: u8, rank: usize) -> Result<Plan, Fault>
     requires { (place < 64) × (rank < 4) }
     ensures { result ≡ RouteLines.add_known plan place code set rank }
 {
@@ -45,21 +44,18 @@ fn known_route(plan: Plan, place: usize, code: u16, set: u8, rank: usize) -> Add
     let mut routes = d.routes;
     let route = routes[rank];
     if set_taken(routes, set) || route.given {
-        return Added { fault: 22, plan };
+        return Err(Fault::Repeat);
     }
     routes[rank] = Route { given: true, set };
     let mut next = plan;
     next.destinations[place] = Destination { code, routes };
-    Added {
-        fault: 0,
-        plan: next,
-    }
+    Ok(next)
 }
 
 // The first route of a destination, which is put in at its place.
-fn new_route(plan: Plan, place: usize, code: u16, set: u8, rank: usize) -> Added
+fn new_route(plan: Plan, place: usize, code: u16, set: u8, rank: usize) -> Result<Plan, Fault>
     requires { (plan.count < 64) × (rank < 4) }
-    ensures { result ≡ accepted (RouteLines.new_route plan place code set rank) }
+    ensures { result ≡ Ok (RouteLines.new_route plan place code set rank) }
 {
     let mut routes = [Route {
         given: false,
@@ -67,12 +63,9 @@ fn new_route(plan: Plan, place: usize, code: u16, set: u8, rank: usize) -> Added
     }; 4];
     routes[rank] = Route { given: true, set };
     let before = plan.destinations;
-    let destinations = insert_destination(before, place, Destination { code, routes });
+    let destinations = inserted(before, place, Destination { code, routes });
     let mut next = plan;
     next.destinations = destinations;
     next.count = plan.count + 1;
-    Added {
-        fault: 0,
-        plan: next,
-    }
+    Ok(next)
 }

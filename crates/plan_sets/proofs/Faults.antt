@@ -8,18 +8,19 @@ use lib.ListN.{set}
 use Rattle.plan.specs.declared.data.Plan.{Plan}
 use Rattle.plan.specs.Data.{set_at}
 use Rattle.plan_repeats.specs.Taken.{adjacent_taken}
-use Rattle.plan_building.specs.Building.{refused, accepted}
 use Rattle.plan_sets.specs.SetLines.{add_set, new_set, with_sets}
 use Rattle.plan_building.proofs.Tests.{either, neither, one_of, none_of}
+use Rattle.plan_building.specs.declared.Fault.TheVariants.{OutOfRange, Repeat}
+use Rattle.std.specs.Prelude.{Ok, Err}
 
 -- `set number adjacent`
 module _ (plan : Plan) (number adjacent : ℕ) where
-  pub set_out : (ltb 7 number ≡ true) ⊎ (ltb 16383 adjacent ≡ true) → refused 21 plan ≡ add_set plan number adjacent
+  pub set_out : (ltb 7 number ≡ true) ⊎ (ltb 16383 adjacent ≡ true) → Err OutOfRange ≡ add_set plan number adjacent
   set_out out = simp (either (ltb 7 number) (ltb 16383 adjacent) out)
 
   module _ (within : (ltb 7 number ≡ false) × (ltb 16383 adjacent ≡ false)) where
     pub set_repeats : ((set_at plan number).given ≡ true) ⊎ ((adjacent_taken plan.sets adjacent ≡ true) ⊎ (eqb adjacent plan.code ≡ true))
-        → refused 22 plan ≡ add_set plan number adjacent
+        → Err Repeat ≡ add_set plan number adjacent
     set_repeats repeats =
         simp (
           neither (ltb 7 number) (ltb 16383 adjacent) within,
@@ -27,7 +28,7 @@ module _ (plan : Plan) (number adjacent : ℕ) where
         )
 
     pub set_added : ((set_at plan number).given ≡ false) × ((adjacent_taken plan.sets adjacent ≡ false) × (eqb adjacent plan.code ≡ false))
-        → accepted (with_sets plan (set plan.sets number (new_set adjacent))) ≡ add_set plan number adjacent
+        → Ok (with_sets plan (set plan.sets number (new_set adjacent))) ≡ add_set plan number adjacent
     set_added fresh =
         simp (
           neither (ltb 7 number) (ltb 16383 adjacent) within,

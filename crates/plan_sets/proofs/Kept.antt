@@ -19,6 +19,7 @@ use Rattle.plan.proofs.Sound.{Linked, holds_none, sound_of, linked, listed}
 use Rattle.plan.proofs.Split.{both_false}
 use Rattle.plan_building.proofs.SetKept.{set_linked}
 use Rattle.plan_building.proofs.Kept.{choose, refuse, accept}
+use Rattle.plan_building.specs.declared.Fault.TheVariants.{OutOfRange, Repeat}
 
 -- a set without links
 pub new_set_linked : (sets : List LinkSet) (links : List Link) (number adjacent : ℕ) → Linked sets links → number < 8
@@ -29,14 +30,14 @@ new_set_linked sets links number adjacent linked inside =
 module _ (plan : Plan) (sound : Sound plan) where
   pub node_kept : (code ni : ℕ) → Kept plan (add_node plan code ni)
   node_kept code ni =
-      choose plan (ltb 16383 code || ltb 3 ni) _ _ (λ e. refuse plan sound 21)
-      (λ e. choose plan plan.given _ _ (λ f. refuse plan sound 22)
+      choose plan (ltb 16383 code || ltb 3 ni) _ _ (λ e. refuse plan sound OutOfRange)
+      (λ e. choose plan plan.given _ _ (λ f. refuse plan sound Repeat)
       (λ f. accept plan _ (sound_of _ (linked plan sound) (listed plan sound))))
 
   pub set_kept : (number adjacent : ℕ) → Kept plan (add_set plan number adjacent)
   set_kept number adjacent =
-      choose plan (ltb 7 number || ltb 16383 adjacent) _ _ (λ e. refuse plan sound 21)
+      choose plan (ltb 7 number || ltb 16383 adjacent) _ _ (λ e. refuse plan sound OutOfRange)
       (λ e.
       let within : number ≤ 7 = ltb-false 7 number (both_false (ltb 7 number) (ltb 16383 adjacent) e).0 in
-      choose plan ((set_at plan number).given || (adjacent_taken plan.sets adjacent || eqb adjacent plan.code)) _ _ (λ f. refuse plan sound 22)
+      choose plan ((set_at plan number).given || (adjacent_taken plan.sets adjacent || eqb adjacent plan.code)) _ _ (λ f. refuse plan sound Repeat)
       (λ f. accept plan _ (sound_of _ (new_set_linked plan.sets plan.links number adjacent (linked plan sound) (omega arith)) (listed plan sound))))

@@ -5,6 +5,7 @@ ghost use Rattle.std.specs.Prelude.{◌≡◌};
 ghost use Rattle.std.proofs.Math.Seq.{slice};
 ghost use Rattle.plan_statement.specs.Statement as Statement·;
 
+use plan_building::Fault;
 use plan_keywords::{Word, fields, read_word};
 use text::part::between;
 use text_decimals::decimal::decimal;
@@ -19,15 +20,8 @@ pub struct Statement {
     pub third: u64,
 }
 
-// What a line says, or its fault: 20 or 21.
-#[derive(Clone, Copy)]
-pub enum Said {
-    Says(Statement),
-    Faulty(u8),
-}
-
-// What the line between two places of a text says.
-pub fn read_statement(text: &[u8], at: usize, to: usize) -> Said
+// What the line between two places of a text says, or its fault.
+pub fn read_statement(text: &[u8], at: usize, to: usize) -> Result<Statement, Fault>
     ensures { result ≡ Statement·.read_statement (slice at to text.now) }
 {
     let found = first_four(text, at, to);
@@ -38,11 +32,20 @@ pub fn read_statement(text: &[u8], at: usize, to: usize) -> Said
     says_counted(found.count, word, first, second, third)
 }
 
-fn says_counted(count: u8, word: Word, first: &[u8], second: &[u8], third: &[u8]) -> Said
+fn says_counted(
+    count: u8,
+    word: Option<Word>,
+    first: &[u8],
+    second: &[u8],
+    third: &[u8],
+) -> Result<Statement, Fault>
     ensures { result ≡ Statement·.says_counted count word first.now second.now third.now }
 {
+    let Some(word) = word else {
+        return Err(Fault::WrongLine);
+    };
     if count != fields(word) {
-        return Said::Faulty(20);
+        return Err(Fault::WrongLine);
     }
     if count == 3 {
         return says(word, first, second, b"0");
@@ -50,19 +53,19 @@ fn says_counted(count: u8, word: Word, first: &[u8], second: &[u8], third: &[u8]
     says(word, first, second, third)
 }
 
-fn says(word: Word, first: &[u8], second: &[u8], third: &[u8]) -> Said
+fn says(word: Word, first: &[u8], second: &[u8], third: &[u8]) -> Result<Statement, Fault>
     ensures { result ≡ Statement·.says word first.now second.now third.now }
 {
     let Some(first) = decimal(first, u64::MAX) else {
-        return Said::Faulty(21);
+        return Err(Fault::OutOfRange);
     };
     let Some(second) = decimal(second, u64::MAX) else {
-        return Said::Faulty(21);
+        return Err(Fault::OutOfRange);
     };
     let Some(third) = decimal(third, u64::MAX) else {
-        return Said::Faulty(21);
+        return Err(Fault::OutOfRange);
     };
-    Said::Says(Statement {
+    Ok(Statement {
         word,
         first,
         second,
