@@ -5,7 +5,7 @@ ghost use Rattle.std.specs.Prelude.{◌≡◌, ◌<◌};
 ghost use Rattle.plan_building.specs.Building.{accepted};
 ghost use Rattle.plan_routes.specs.RouteLines as RouteLines;
 
-use plan::data::{Destination, Plan, Route};
+use plan::data::{Destination, NO_ROUTE, Plan, Route};
 use plan::find::find;
 use plan_building::Added;
 use plan_entries::insert::insert_destination;
@@ -26,14 +26,11 @@ pub fn add_route(plan: Plan, destination: u64, set: u64, rank: u64) -> Added
     if code == plan.code {
         return Added { fault: 22, plan };
     }
-    let found = find(plan, code);
-    if found.given {
-        return known_route(plan, found.place, code, set as u8, rank as usize);
+    match find(plan, code) {
+        Ok(place) => known_route(plan, place, code, set as u8, rank as usize),
+        Err(_) if 64 <= plan.count => Added { fault: 24, plan },
+        Err(place) => new_route(plan, place, code, set as u8, rank as usize),
     }
-    if 64 <= plan.count {
-        return Added { fault: 24, plan };
-    }
-    new_route(plan, found.place, code, set as u8, rank as usize)
 }
 
 // One more route of the destination that stands at a place.
@@ -61,10 +58,7 @@ fn new_route(plan: Plan, place: usize, code: u16, set: u8, rank: usize) -> Added
     requires { (plan.count < 64) × (rank < 4) }
     ensures { result ≡ accepted (RouteLines.new_route plan place code set rank) }
 {
-    let mut routes = [Route {
-        given: false,
-        set: 0,
-    }; 4];
+    let mut routes = [NO_ROUTE; 4];
     routes[rank] = Route { given: true, set };
     let before = plan.destinations;
     let destinations = insert_destination(before, place, Destination { code, routes });
