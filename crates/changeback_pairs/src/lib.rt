@@ -74,13 +74,11 @@ pub fn sources_of(
 ) -> Sources
     ensures { result ≡ Pairs.sources_of (plan_of plan) before.now after.now marks.now link }
 {
-    let all = 16 * given_of(plan);
     let mut known = Sources {
         own: NO_LINK,
         other: false,
     };
-    let mut pair = 0;
-    while pair < all {
+    for pair in 0..16 * given_of(plan) {
         let from = came_from(
             plan,
             before,
@@ -91,7 +89,6 @@ pub fn sources_of(
             (pair % 16) as u8,
         );
         known = with_source(plan, link, from, known);
-        pair += 1;
     }
     known
 }

@@ -1,7 +1,7 @@
 -- A search place by place for the first one that passes a test: one law for those of sets, links and routes. Assumes nothing.
 use mathlib.Core.Path.{◌≡◌, refl, sym, ap, subst, ◌∙◌}
 use mathlib.Core.Bool.{Bool, true, false, cond, ◌&&◌}
-use mathlib.Core.List.{List}
+use mathlib.Core.List.{List, [], ◌∷◌}
 use Prim.Native.Nat.{ℕ, zero, suc, ◌+◌, ◌-◌, ◌≤◌, ◌<◌, zero-le}
 use native.Mathlib.Numerals.{add-one}
 use native.Mathlib.Omega.{arith}
@@ -9,6 +9,10 @@ use lib.Dec.{ltb, eqb}
 use lib.ListN.{length, get_or, drop, length-take, drop_of_length-le}
 use lib.Seq.{drop-cons, get_or-take}
 use borrow.Table.Steps.{cases}
+use Rattle.std.specs.Prelude.{Option, position}
+use Rattle.std.specs.Option.{unwrap_or}
+use Rattle.std.specs.List.{position_from}
+use Rattle.std.proofs.lemmas.Iterator.Adapters.{position_from-zero}
 use Rattle.plan.specs.declared.data.Plan.{Plan}
 use Rattle.plan.specs.declared.data.LinkSet.{LinkSet}
 use Rattle.plan.specs.declared.data.Link.{Link}
@@ -16,7 +20,7 @@ use Rattle.plan.specs.declared.data.Route.{Route}
 use Rattle.plan.specs.Data as Data
 use Rattle.plan.proofs.Split.{split}
 use Rattle.constants.specs.Constants.{no_link}
-use Rattle.lookup.specs.Lookup.{no_set, no_rank, set_from, link_with, rank_from, all_of}
+use Rattle.lookup.specs.Lookup.{no_set, no_rank, set_from, link_with, by_set, rank_from, all_of}
 
 -- what a search yields from each of n places on: the value at the first that passes, and behind the last none
 pub record Walk (test : ℕ → Bool) (value : ℕ → ℕ) (none n : ℕ) (left : ℕ → ℕ) : Type 0 where
@@ -113,3 +117,15 @@ routes_walk set routes n all =
       step = λ i h. simp (add-one, drop-cons routes i Data.absent_route (omega arith));
       end = λ i h. simp (drop_of_length-le routes {i = i} (omega arith));
     }
+
+-- the first route that goes by a set, of those from a rank on
+first_by_set : (set rank : ℕ) (routes : List Route) → unwrap_or (position_from (by_set set) rank routes) no_rank ≡ rank_from set rank routes
+unfolding rank_from
+first_by_set set rank [] = refl
+first_by_set set rank (route ∷ worse) =
+    cases (by_set set route) (λ yes. simp yes) (λ no. simp no (first_by_set set (rank + 1) worse))
+
+-- and of all
+pub rank_found : (set : ℕ) (routes : List Route) → unwrap_or (position (by_set set) routes) no_rank ≡ rank_from set 0 routes
+rank_found set routes =
+    ap (λ (o : Option ℕ). unwrap_or o no_rank) (position_from-zero (by_set set) routes) ∙ first_by_set set 0 routes

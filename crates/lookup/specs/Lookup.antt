@@ -38,6 +38,10 @@ unfoldable pub link_named : Plan → ℕ → ℕ → ℕ
 link_named plan point slc =
     cond (ltb (set_to plan point) 8) (link_with plan slc (all_of (set_at plan (set_to plan point)))) no_link
 
+-- whether a route goes by a set
+abbrev pub by_set : ℕ → Route → Bool
+by_set set route = route.given && eqb route.set set
+
 -- the rank of the route by a set, of those from a rank on
 unfoldable pub rank_from : ℕ → ℕ → List Route → ℕ
 rank_from set rank [] = no_rank

@@ -1,7 +1,7 @@
 // What messages and calls name: a link by its adjacent point and SLC, a route by its destination and set, a link by its number.
 #![tactic(auto)]
 
-ghost use Rattle.std.specs.Prelude.{◌≡◌};
+ghost use Rattle.std.specs.Prelude.{◌≡◌, position};
 ghost use Rattle.plan.specs.Data.{set_at};
 ghost use Rattle.plan_words.specs.Words.{plan_of};
 ghost use Rattle.lookup.specs.Lookup as Lookup;
@@ -17,12 +17,10 @@ use plan_words::read::{
 pub fn set_to(plan: &[u16; 1024], point: u16) -> u8
     ensures { result ≡ Lookup.set_to (plan_of plan) point }
 {
-    let mut set = 0u8;
-    while set < 8 {
+    for set in 0..8 {
         if set_given(plan, set) && set_adjacent(plan, set) == point {
             return set;
         }
-        set += 1;
     }
     8
 }
@@ -31,17 +29,11 @@ pub fn set_to(plan: &[u16; 1024], point: u16) -> u8
 fn link_with(plan: &[u16; 1024], set: u8, slc: u8) -> u8
     ensures { result ≡ Lookup.link_with (plan_of plan) slc (Lookup.all_of (set_at (plan_of plan) set)) }
 {
-    let count = set_count(plan, set);
-    let m = if count < 8 { count } else { 8 };
-    let mut i = 0u8;
-    while i < m {
-        let link = set_link(plan, set, i);
-        if link < NO_LINK {
-            if link_slc(plan, link) == slc {
-                return link;
-            }
+    for place in 0..set_count(plan, set).min(8) {
+        let link = set_link(plan, set, place);
+        if link < NO_LINK && link_slc(plan, link) == slc {
+            return link;
         }
-        i += 1;
     }
     NO_LINK
 }
@@ -65,22 +57,16 @@ pub fn rank_by(plan: &[u16; 1024], destination: usize, set: u8) -> usize
     if 64 <= destination {
         return 4;
     }
-    rank_among(destination_routes(plan, destination), set)
+    rank_among(destination_routes(plan, destination), set).unwrap_or(4)
 }
 
-// The rank of the one among a destination's routes that goes by a set, 4 where there is none.
-fn rank_among(routes: [Route; 4], set: u8) -> usize
-    ensures { result ≡ Lookup.rank_from set 0 routes }
+// The rank of the one among a destination's routes that goes by a set.
+fn rank_among(routes: [Route; 4], set: u8) -> Option<usize>
+    ensures { result ≡ position (Lookup.by_set set) routes }
 {
-    let mut rank = 0;
-    while rank < 4 {
-        let route = routes[rank];
-        if route.given && route.set == set {
-            return rank;
-        }
-        rank += 1;
-    }
-    4
+    routes
+        .iter()
+        .position(|route| route.given && route.set == set)
 }
 
 // Whether a link is configured.

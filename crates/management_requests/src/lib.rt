@@ -38,14 +38,13 @@ fn allows(plan: &[u16; 1024], links: &[u32; 256], marks: &[u32; 512], point: u16
     if 8 <= asker {
         return false;
     }
-    let found = find(plan, x);
-    if !found.given {
+    let Ok(place) = find(plan, x) else {
+        return false;
+    };
+    if !accessible(plan, links, marks, place) {
         return false;
     }
-    if !accessible(plan, links, marks, found.place) {
-        return false;
-    }
-    current_set(plan, links, marks, found.place) != asker
+    current_set(plan, links, marks, place) != asker
 }
 
 #[tactic(auto, unfolding(crate::specs::Request::ask_rst))]

@@ -9,7 +9,7 @@ use area_flags::{flag, set_flag};
 use constants::{HELD_APART, NO_LINK, T6, T8};
 use lookup::adjacent_of;
 use management_making::Draft;
-use plan_words::find::find;
+use plan_words::find::{find, place_of};
 use route_ways::Direction;
 use wire_messages::management::Message;
 
@@ -42,11 +42,10 @@ pub fn prohibited_to(plan: &[u16; 1024], arriving: u8, x: u16) -> Draft
 pub fn tells(plan: &[u16; 1024], marks: &[u32; 512], x: u16) -> bool
     ensures { result ≡ Passage.tells (plan_of plan) marks.now x }
 {
-    let found = find(plan, x);
-    if !found.given {
-        return false;
+    match find(plan, x) {
+        Ok(place) => !flag(marks, place, T8),
+        Err(_) => false,
     }
-    !flag(marks, found.place, T8)
 }
 
 // T8 of a destination starts.
@@ -54,6 +53,5 @@ pub fn tells(plan: &[u16; 1024], marks: &[u32; 512], x: u16) -> bool
 pub fn start_t8(plan: &[u16; 1024], marks: &mut [u32; 512], x: u16)
     ensures { marks.new ≡ Passage.with_t8 (plan_of plan) marks.old x }
 {
-    let found = find(plan, x);
-    set_flag(marks, found.place, T8, true);
+    set_flag(marks, place_of(plan, x), T8, true);
 }

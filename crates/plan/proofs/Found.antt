@@ -1,15 +1,16 @@
 -- In a sound plan the search by halving finds a code exactly if a given destination has it. Assumes nothing.
-use mathlib.Core.Path.{◌≡◌, ap, ◌∙◌}
-use mathlib.Core.Bool.{true, and-eq-true_iff}
+use mathlib.Core.Path.{◌≡◌, refl, ap, ◌∙◌}
+use mathlib.Core.Bool.{Bool, true, false, cond, and-eq-true_iff}
 use mathlib.Core.List.{List}
 use Prim.Native.Nat.{ℕ, zero, suc, ◌+◌, ◌-◌, ◌*◌, ◌/◌, ◌^◌, ◌≤◌, ◌<◌}
 use native.Mathlib.Nat.{pow-suc}
 use native.Mathlib.Omega.{arith}
 use lib.Dec.{ltb, eqb}
 use borrow.Author.Tests.{lt-ltb, eq-eqb, ltb-true, eqb-true}
+use Rattle.std.specs.Prelude.{Result, Ok, Err}
 use Rattle.plan.specs.declared.data.Plan.{Plan}
 use Rattle.plan.specs.declared.data.Destination.{Destination}
-use Rattle.plan.specs.Find.{code_at, halved, given, place_of, is_found}
+use Rattle.plan.specs.Find.{code_at, halved, given, place_of, is_found, found_of}
 use Rattle.plan.specs.Sound.{Sound, Stands}
 use Rattle.plan.proofs.Halving.{halved_met, halved_up, halved_down}
 use Rattle.plan.proofs.Order.{Ascending, Parts}
@@ -81,3 +82,26 @@ module _ (plan : Plan) (sound : Sound plan) (code : ℕ) where
 
   pub found_exactly : (is_found plan code ≡ true → Stands plan code (place_of plan code)) × ((place : ℕ) → Stands plan code place → (is_found plan code ≡ true) × (place_of plan code ≡ place))
   found_exactly = (found_stands, stands_found)
+
+-- what the answer of a search says
+of_either : Result ℕ ℕ → ℕ
+of_either (Ok place) = place
+of_either (Err place) = place
+
+module _ (place there : ℕ) where
+  ok_of : (found : Bool) → Ok place ≡ cond found (Ok there) (Err there) → (found ≡ true) × (place ≡ there)
+  unfolding of_either
+  ok_of true e = (refl, ap of_either e)
+  ok_of false e = absurd (cc e)
+
+  err_of : (found : Bool) → Err place ≡ cond found (Ok there) (Err there) → (found ≡ false) × (place ≡ there)
+  unfolding of_either
+  err_of true e = absurd (cc e)
+  err_of false e = (refl, ap of_either e)
+
+module _ (plan : Plan) (code place : ℕ) where
+  pub found_ok : Ok place ≡ found_of plan code → (is_found plan code ≡ true) × (place ≡ place_of plan code)
+  found_ok = ok_of place (place_of plan code) (is_found plan code)
+
+  pub found_err : Err place ≡ found_of plan code → (is_found plan code ≡ false) × (place ≡ place_of plan code)
+  found_err = err_of place (place_of plan code) (is_found plan code)

@@ -1,19 +1,16 @@
 -- The search by halving, turn by turn, and what it answers at its end. Assumes nothing.
-use mathlib.Core.Path.{◌≡◌, refl, sym, ap, ◌∙◌}
-use mathlib.Core.Bool.{true, false, and-eq-true_iff}
+use mathlib.Core.Path.{◌≡◌, refl, sym, ◌∙◌}
+use mathlib.Core.Bool.{Bool, true, false, cond, ◌&&◌}
 use mathlib.Core.List.{List}
 use Prim.Native.Nat.{ℕ, zero, suc, ◌+◌, ◌-◌, ◌*◌, ◌/◌, ◌^◌, ◌≤◌, ◌<◌}
 use native.Mathlib.Nat.{pow-suc}
-use lib.ListN.{replicate}
 use native.Mathlib.Omega.{arith}
 use lib.Dec.{eqb, ltb}
-use borrow.Author.Tests.{lt-ltb, le-ltb, ltb-true}
+use borrow.Author.Tests.{lt-ltb, le-ltb, eq-eqb, ne_eqb}
+use Rattle.std.specs.Prelude.{Ok, Err}
 use Rattle.plan.specs.declared.data.Plan.{Plan}
 use Rattle.plan.specs.declared.data.Destination.{Destination}
-use Rattle.plan.specs.declared.find.Found.{Found}
-use Rattle.plan.specs.declared.find.There.{There}
-use Rattle.plan.specs.Data.{absent_route, routes_of}
-use Rattle.plan.specs.Find.{code_at, halved, given, place_of, is_found, there_of}
+use Rattle.plan.specs.Find.{code_at, halved, given, place_of, found_of}
 
 -- some halvings are left between two places, enough for them, and they lead where all seven do
 pub record Halving (destinations : List Destination) (code count low high : ℕ) : Type 0 where
@@ -71,24 +68,17 @@ module _ (destinations : List Destination) (code : ℕ) where
       pub halve_last : high ≤ low → low ≡ halved destinations code 7 0 count
       halve_last h = sym (halved_met so_far.turns low high h) ∙ so_far.left
 
-module _ (plan : Plan) (code low count : ℕ) (all : count ≡ given plan) (found : low ≡ halved plan.destinations code 7 0 count) where
-  place : low ≡ place_of plan code
-  place = found ∙ ap (halved plan.destinations code 7 0) all
+-- what is said of the place that is found, by the two tests on it
+module _ (plan : Plan) (code place : ℕ) (found : place ≡ place_of plan code) where
+  said : (within has : Bool) → ltb place (given plan) ≡ within → eqb (code_at plan.destinations place) code ≡ has
+      → found_of plan code ≡ cond (within && has) (Ok place) (Err place)
+  said within has w h = simp (← found, w, h)
 
-  pub stands_there : low < count
-      → ◌≡◌ {A = There}
-      (record { given = eqb (code_at plan.destinations low) code; place = low; routes = routes_of plan low })
-      (there_of plan code)
-  stands_there h = simp (← place, lt-ltb low (given plan) (omega arith))
+  pub stands_there : place < given plan → code_at plan.destinations place ≡ code → Ok place ≡ found_of plan code
+  stands_there w h = sym (said true true (lt-ltb place (given plan) w) (eq-eqb (code_at plan.destinations place) code h))
 
-  pub stands_nowhere : count ≤ low
-      → ◌≡◌ {A = There} (record { given = false; place = low; routes = replicate 4 absent_route }) (there_of plan code)
-  stands_nowhere h = simp (← place, le-ltb low (given plan) (omega arith))
+  pub other_there : place < given plan → (code_at plan.destinations place ≡ code → ⊥) → Err place ≡ found_of plan code
+  other_there w h = sym (said true false (lt-ltb place (given plan) w) (ne_eqb (code_at plan.destinations place) code h))
 
--- a destination that is found stands in the table
-pub found_below : (plan : Plan) (code : ℕ) (found : Found) → found ≡ record { given = is_found plan code; place = place_of plan code }
-    → found.given ≡ true → found.place < 64
-found_below plan code found e standing =
-    let both = (and-eq-true_iff (ltb (place_of plan code) (given plan)) _).0 (ap (λ (f : Found). f.given) (sym e) ∙ standing) in
-    let below : place_of plan code < given plan = ltb-true _ _ both.0 in
-    omega (arith, ap (λ (f : Found). f.place) e)
+  pub none_there : given plan ≤ place → Err place ≡ found_of plan code
+  none_there w = sym (said false (eqb (code_at plan.destinations place) code) (le-ltb place (given plan) w) refl)

@@ -10,6 +10,11 @@ pub struct Route {
     pub set: u8,
 }
 
+pub const NO_ROUTE: Route = Route {
+    given: false,
+    set: 0,
+};
+
 #[repr(C)]
 #[derive(Clone, Copy)]
 pub struct Destination {
@@ -65,10 +70,7 @@ pub fn empty_plan() -> Plan
     };
     let destination = Destination {
         code: 0,
-        routes: [Route {
-            given: false,
-            set: 0,
-        }; 4],
+        routes: [NO_ROUTE; 4],
     };
     Plan {
         given: false,

@@ -4,7 +4,7 @@
 ghost use Rattle.std.specs.Prelude.{◌≡◌, ◌<◌};
 ghost use Rattle.plan_routes.specs.RouteLines as RouteLines;
 
-use plan::data::{Destination, Plan, Route};
+use plan::data::{Destination, NO_ROUTE, Plan, Route};
 use plan::find::find;
 use plan_building::Fault;
 use plan_entries::insert::inserted;
@@ -25,14 +25,11 @@ pub fn add_route(plan: Plan, destination: u64, set: u64, rank: u64) -> Result<Pl
     if code == plan.code {
         return Err(Fault::Repeat);
     }
-    let found = find(plan, code);
-    if found.given {
-        return known_route(plan, found.place, code, set as u8, rank as usize);
+    match find(plan, code) {
+        Ok(place) => known_route(plan, place, code, set as u8, rank as usize),
+        Err(_) if 64 <= plan.count => Err(Fault::Full),
+        Err(place) => new_route(plan, place, code, set as u8, rank as usize),
     }
-    if 64 <= plan.count {
-        return Err(Fault::Full);
-    }
-    new_route(plan, found.place, code, set as u8, rank as usize)
 }
 
 // One more route of the destination that stands at a place.
@@ -57,10 +54,7 @@ fn new_route(plan: Plan, place: usize, code: u16, set: u8, rank: usize) -> Resul
     requires { (plan.count < 64) × (rank < 4) }
     ensures { result ≡ Ok (RouteLines.new_route plan place code set rank) }
 {
-    let mut routes = [Route {
-        given: false,
-        set: 0,
-    }; 4];
+    let mut routes = [NO_ROUTE; 4];
     routes[rank] = Route { given: true, set };
     let before = plan.destinations;
     let destinations = inserted(before, place, Destination { code, routes });

@@ -10,17 +10,6 @@ use lib.Seq.{sets, length-sets, drop-cons}
 use Rattle.area_rows.proofs.Laws.{set_after, set_there}
 use Rattle.plan_store.specs.Layout.{placed}
 
--- a turn of the loop that sets words, and its end
-pub set_turn : (words area whole : List ℕ) (at i n word : ℕ) → length words ≡ n → i < n → word ≡ get_or words i 0
-    → sets area (at + i) (drop i words) ≡ whole
-    → sets (set area (at + i) word) (at + (i + 1)) (drop (i + 1) words) ≡ whole
-set_turn words area whole at i n word size h now e =
-    let next : at + (i + 1) ≡ suc (at + i) = omega arith in
-    rw (now, next, add-one) (ap (sets area (at + i)) (sym (drop-cons words i 0 (omega arith))) ∙ e)
-
-pub set_end : (words area whole : List ℕ) (at i n : ℕ) → length words ≡ n → n ≤ i → sets area at (drop i words) ≡ whole → area ≡ whole
-set_end words area whole at i n size h e = ap (sets area at) (sym (drop_of_length-le words {i = i} (omega arith))) ∙ e
-
 module _ {A : Type 0} (row : A → List ℕ) (width : ℕ) where
   pub length_placed : (at : ℕ) (items : List A) (words : List ℕ) → length (placed row width at items words) ≡ length words
   unfolding placed

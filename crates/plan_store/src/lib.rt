@@ -27,10 +27,8 @@ fn store_members(words: &mut [u16; 1024], at: usize, links: [u8; 8])
     requires { at ≤ 1016 }
     ensures { words.new ≡ sets words.old at links }
 {
-    let mut i = 0;
-    while i < 8 {
-        words[at + i] = links[i] as u16;
-        i += 1;
+    for (place, link) in links.iter().enumerate() {
+        words[at + place] = *link as u16;
     }
 }
 
@@ -43,18 +41,14 @@ fn store_set(words: &mut [u16; 1024], set: usize, known: LinkSet)
     words[at + 1] = known.adjacent;
     words[at + 2] = known.count as u16;
     words[at + 3] = 0;
-    let links = known.links;
-    store_members(words, at + 4, links);
+    store_members(words, at + 4, known.links);
 }
 
 fn store_sets(words: &mut [u16; 1024], sets: [LinkSet; 8])
     ensures { words.new ≡ placed set_words 16 16 sets words.old }
 {
-    let mut i = 0;
-    while i < 8 {
-        let set = sets[i];
-        store_set(words, i, set);
-        i += 1;
+    for (number, set) in sets.iter().enumerate() {
+        store_set(words, number, *set);
     }
 }
 
@@ -72,11 +66,8 @@ fn store_link(words: &mut [u16; 1024], link: usize, known: Link)
 fn store_links(words: &mut [u16; 1024], links: [Link; 32])
     ensures { words.new ≡ placed link_words 4 144 links words.old }
 {
-    let mut i = 0;
-    while i < 32 {
-        let link = links[i];
-        store_link(words, i, link);
-        i += 1;
+    for (number, link) in links.iter().enumerate() {
+        store_link(words, number, *link);
     }
 }
 
@@ -84,11 +75,8 @@ fn store_links(words: &mut [u16; 1024], links: [Link; 32])
 fn store_codes(words: &mut [u16; 1024], destinations: [Destination; 64])
     ensures { words.new ≡ placed code_words 1 272 destinations words.old }
 {
-    let mut i = 0;
-    while i < 64 {
-        let there = destinations[i];
-        words[272 + i] = there.code;
-        i += 1;
+    for (place, destination) in destinations.iter().enumerate() {
+        words[272 + place] = destination.code;
     }
 }
 
@@ -97,23 +85,16 @@ fn store_routes(words: &mut [u16; 1024], place: usize, routes: [Route; 4])
     ensures { words.new ≡ sets words.old (336 + 4 * place) (map route_word routes) }
 {
     let at = 336 + 4 * place;
-    let mut rank = 0;
-    while rank < 4 {
-        let route = routes[rank];
-        words[at + rank] = route_word(route);
-        rank += 1;
+    for (rank, route) in routes.iter().enumerate() {
+        words[at + rank] = route_word(*route);
     }
 }
 
 fn store_ways(words: &mut [u16; 1024], destinations: [Destination; 64])
     ensures { words.new ≡ placed route_words 4 336 destinations words.old }
 {
-    let mut i = 0;
-    while i < 64 {
-        let there = destinations[i];
-        let routes = there.routes;
-        store_routes(words, i, routes);
-        i += 1;
+    for (place, destination) in destinations.iter().enumerate() {
+        store_routes(words, place, destination.routes);
     }
 }
 
@@ -126,13 +107,10 @@ pub fn words_of(plan: Plan) -> [u16; 1024]
     words[1] = plan.code;
     words[2] = plan.ni as u16;
     words[3] = plan.count as u16;
-    let sets = plan.sets;
-    store_sets(&mut words, sets);
-    let links = plan.links;
-    store_links(&mut words, links);
-    let destinations = plan.destinations;
-    store_codes(&mut words, destinations);
-    store_ways(&mut words, destinations);
+    store_sets(&mut words, plan.sets);
+    store_links(&mut words, plan.links);
+    store_codes(&mut words, plan.destinations);
+    store_ways(&mut words, plan.destinations);
     words
 }
 
@@ -141,6 +119,5 @@ pub fn store(words: &mut [u16; 1024], plan: Plan)
     ensures words_after { words.new ≡ words_of plan }
     ensures words_after_2 { plan_at words.new ≡ plan }
 {
-    let made = words_of(plan);
-    *words = made;
+    *words = words_of(plan);
 }

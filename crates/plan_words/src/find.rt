@@ -1,28 +1,28 @@
 // Destinations are in ascending code: one is found by halving.
 ghost use Rattle.std.specs.Prelude.{◌≡◌};
-ghost use Rattle.plan.specs.Find.{place_of, is_found, there_of};
+ghost use Rattle.plan.specs.Find.{place_of, found_of};
 ghost use Rattle.plan_words.specs.Words.{plan_of};
 
-use crate::read::{count, destination_routes};
-use plan::data::Route;
-use plan::find::{Found, There};
+use crate::read::count;
 
-pub fn find(plan: &[u16; 1024], code: u16) -> Found
-    ensures { result ≡ record { given = is_found (plan_of plan) code; place = place_of (plan_of plan) code } }
+// The place of the destination that has a code. If none has, the place where one would have to be put in.
+pub fn find(plan: &[u16; 1024], code: u16) -> Result<usize, usize>
+    ensures { result ≡ found_of (plan_of plan) code }
 {
-    let there = seek(plan, code);
-    Found {
-        given: there.given,
-        place: there.place,
+    let place = place_of(plan, code);
+    if place < (count(plan) as usize).min(64) && plan[272 + place] == code {
+        Ok(place)
+    } else {
+        Err(place)
     }
 }
 
-// The search, whose routes come along. It reads the codes where they stand: within the table no place needs a test.
-pub fn seek(plan: &[u16; 1024], code: u16) -> There
-    ensures { result ≡ there_of (plan_of plan) code }
+// The first of the given destinations whose code isn't below the one looked for; how many are given, where all are. It reads the
+// codes where they stand: within the table no place needs a test.
+pub fn place_of(plan: &[u16; 1024], code: u16) -> usize
+    ensures { result ≡ place_of (plan_of plan) code }
 {
-    let many = count(plan);
-    let count = if many < 64 { many as usize } else { 64 };
+    let count = (count(plan) as usize).min(64);
     let mut low = 0;
     let mut high = count;
     while low < high {
@@ -33,21 +33,5 @@ pub fn seek(plan: &[u16; 1024], code: u16) -> There
             high = middle;
         }
     }
-    if count <= low {
-        let none = Route {
-            given: false,
-            set: 0,
-        };
-        return There {
-            given: false,
-            place: low,
-            routes: [none; 4],
-        };
-    }
-    let routes = destination_routes(plan, low);
-    There {
-        given: plan[272 + low] == code,
-        place: low,
-        routes,
-    }
+    low
 }

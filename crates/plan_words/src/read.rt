@@ -4,7 +4,7 @@ ghost use Rattle.plan.specs.Data.{set_at, link_at, destination_at};
 ghost use Rattle.plan_words.specs.Words.{plan_of, route_of, routes_at};
 
 use constants::LINKS;
-use plan::data::Route;
+use plan::data::{NO_ROUTE, Route};
 
 // The node: whether there is one, its code, its network indicator, how many destinations are given.
 pub fn given(plan: &[u16; 1024]) -> bool
@@ -122,11 +122,7 @@ pub fn destination_routes(plan: &[u16; 1024], place: usize) -> [Route; 4]
     ensures { result ≡ routes_at (plan_of plan) place }
 {
     if 64 <= place {
-        let none = Route {
-            given: false,
-            set: 0,
-        };
-        return [none; 4];
+        return [NO_ROUTE; 4];
     }
     let at = 336 + 4 * place;
     let first = route(plan[at]);

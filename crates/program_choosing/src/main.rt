@@ -47,15 +47,13 @@ fn read_full(input: &mut impl Read, buffer: &mut [u8]) -> usize
 fn choose_all(plan: &[u16; 1024], out: u64, count: u64) -> u64 {
     let mut links = all_but(out);
     let marks = [0u32; 512];
-    let mut sum = 0;
-    let mut rest = count;
-    while 0 < rest {
-        rest -= 1;
+    let mut sum = 0u64;
+    for rest in (0..count).rev() {
         let link = choose(plan, &links, &marks, for_users(), 0, (rest % 16) as u8);
         if link < 32 {
             links[8 * link as usize + 3] = (rest % 128) as u32;
         }
-        sum = std::num::wrapping_add_u64(sum, link as u64);
+        sum = sum.wrapping_add(link as u64);
     }
     sum
 }
@@ -63,12 +61,8 @@ fn choose_all(plan: &[u16; 1024], out: u64, count: u64) -> u64 {
 // The states of the links, open but for the first so many.
 fn all_but(out: u64) -> [u32; 256] {
     let mut links = [0u32; 256];
-    let mut link = 0;
-    while link < 32 {
-        if out <= link {
-            links[8 * link as usize] = 2;
-        }
-        link += 1;
+    for link in out.min(32)..32 {
+        links[8 * link as usize] = 2;
     }
     links
 }

@@ -85,11 +85,10 @@ fn read_full(file: &mut impl Read, buffer: &mut [u8]) -> usize
 
 fn show(rt: &impl Print, text: &[u8]) -> io::Result<()> {
     let made = plan_configuration::configure::configure(text);
-    let plan = made.plan;
     if made.fault == 0 {
-        show_list(rt, plan)
+        show_list(rt, made.plan)
     } else {
-        show_fault(rt, made.line as u64, made.fault as u64)
+        println!(rt; "config\t{}\t{}", made.line, made.fault)
     }
 }
 
@@ -102,21 +101,13 @@ fn show_list(rt: &impl Print, plan: Plan) -> io::Result<()> {
     io::writer(rt).write_all(text::part::between(&out, 0, listed.octets))
 }
 
-fn show_fault(rt: &impl Print, line: u64, fault: u64) -> io::Result<()> {
-    println!(rt; "config\t{line}\t{fault}")
-}
-
 // The states of the links, each that is given open.
 fn all_open(plan: Plan) -> [u32; 256] {
     let mut states = [0u32; 256];
-    let links = plan.links;
-    let mut i = 0;
-    while i < 32 {
-        let link = links[i];
+    for (number, link) in plan.links.iter().enumerate() {
         if link.given {
-            states[8 * i] = 2;
+            states[8 * number] = 2;
         }
-        i += 1;
     }
     states
 }

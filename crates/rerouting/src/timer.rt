@@ -7,7 +7,7 @@ ghost use Rattle.rerouting.specs.Timer as Timer;
 use area_flags::set_flag;
 use constants::T6;
 use management_making::make;
-use plan_words::find::find;
+use plan_words::find::place_of;
 use replies::{Answer, done, plain};
 use reports::short;
 use rerouting_expiry::{t10_reply, test_of, timer_reply};
@@ -34,8 +34,7 @@ pub fn expire_t6(
     if 0 < reply {
         return plain(reply);
     }
-    let found = find(plan, x);
-    set_flag(marks, found.place, T6, false);
+    set_flag(marks, place_of(plan, x), T6, false);
     done(release(plan, links, marks, spans, rings, rows, x, reports, 0))
 }
 

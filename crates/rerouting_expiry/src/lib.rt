@@ -9,7 +9,7 @@ use area_flags::{flag, set_flag};
 use constants::{NO_LINK, T8};
 use lookup::{is_set, rank_by};
 use management_making::Draft;
-use plan_words::find::find;
+use plan_words::find::{find, place_of};
 use plan_words::read::{given, set_adjacent};
 use wire_messages::management::Message;
 
@@ -18,11 +18,7 @@ use wire_messages::management::Message;
 pub fn is_destination(plan: &[u16; 1024], x: u16) -> bool
     ensures { result ≡ Expiry.is_destination (plan_of plan) x }
 {
-    if !given(plan) {
-        return false;
-    }
-    let found = find(plan, x);
-    found.given
+    given(plan) && find(plan, x).is_ok()
 }
 
 // The reply to the expiry of a destination's timer, by the word of its flag.
@@ -36,8 +32,7 @@ pub fn timer_reply(plan: &[u16; 1024], marks: &[u32; 512], x: u16, timer: usize)
     if !is_destination(plan, x) {
         return 2;
     }
-    let found = find(plan, x);
-    if !flag(marks, found.place, timer) {
+    if !flag(marks, place_of(plan, x), timer) {
         return 5;
     }
     0
@@ -53,8 +48,7 @@ pub fn expire_t8(plan: &[u16; 1024], marks: &mut [u32; 512], x: u16) -> u8
     if 0 < reply {
         return reply;
     }
-    let found = find(plan, x);
-    set_flag(marks, found.place, T8, false);
+    set_flag(marks, place_of(plan, x), T8, false);
     0
 }
 
@@ -75,12 +69,12 @@ pub fn t10_reply(plan: &[u16; 1024], marks: &[u32; 512], x: u16, set: u8) -> u8
     if !is_set(plan, set) {
         return 2;
     }
-    let found = find(plan, x);
-    let rank = rank_by(plan, found.place, set);
+    let place = place_of(plan, x);
+    let rank = rank_by(plan, place, set);
     if 4 <= rank {
         return 5;
     }
-    if !flag(marks, found.place, rank) {
+    if !flag(marks, place, rank) {
         return 5;
     }
     0

@@ -8,7 +8,7 @@ ghost use Rattle.rerouting_marking.specs.Mark as Mark;
 use area_flags::{flag, set_flag};
 use constants::T6;
 use lookup::{rank_by, set_to};
-use plan_words::find::find;
+use plan_words::find::{find, place_of};
 use plan_words::read::code;
 use route_access::accessible;
 use route_current::current_set;
@@ -22,11 +22,10 @@ fn rank_for(plan: &[u16; 1024], point: u16, x: u16) -> usize
     if 8 <= set {
         return 4;
     }
-    let found = find(plan, x);
-    if !found.given {
-        return 4;
+    match find(plan, x) {
+        Ok(place) => rank_by(plan, place, set),
+        Err(_) => 4,
     }
-    rank_by(plan, found.place, set)
 }
 
 // Whether a TFP or TFA counts.
@@ -44,8 +43,7 @@ pub fn counts(plan: &[u16; 1024], marks: &[u32; 512], point: u16, x: u16, prohib
     if 4 <= rank {
         return false;
     }
-    let found = find(plan, x);
-    let stands = flag(marks, found.place, rank);
+    let stands = flag(marks, place_of(plan, x), rank);
     if prohibits { !stands } else { stands }
 }
 
@@ -64,11 +62,11 @@ fn diverts(
     if prohibits {
         return false;
     }
-    let found = find(plan, x);
-    if !accessible(plan, links, before, found.place) {
+    let place = place_of(plan, x);
+    if !accessible(plan, links, before, place) {
         return false;
     }
-    current_set(plan, links, before, found.place) != current_set(plan, links, after, found.place)
+    current_set(plan, links, before, place) != current_set(plan, links, after, place)
 }
 
 // The mark is set or cleared, and T6 started.
@@ -84,10 +82,10 @@ pub fn mark(
     ensures { marks.new ≡ Mark.marks_after (plan_of plan) links.now marks.old point x prohibits }
 {
     let before = *marks;
-    let found = find(plan, x);
+    let place = place_of(plan, x);
     let rank = rank_for(plan, point, x);
-    set_flag(marks, found.place, rank, prohibits);
+    set_flag(marks, place, rank, prohibits);
     if diverts(plan, links, &before, marks, x, prohibits) {
-        set_flag(marks, found.place, T6, true);
+        set_flag(marks, place, T6, true);
     }
 }

@@ -16,8 +16,7 @@ use route_ways::current;
 pub fn given_of(plan: &[u16; 1024]) -> usize
     ensures { result ≡ given (plan_of plan) }
 {
-    let count = count(plan);
-    if count < 64 { count as usize } else { 64 }
+    (count(plan) as usize).min(64)
 }
 
 // Whether a destination is accessible.
@@ -38,11 +37,8 @@ pub fn accesses(plan: &[u16; 1024], links: &[u32; 256], marks: &[u32; 512]) -> [
     ensures { result ≡ Change.accesses_of (plan_of plan) links.now marks.now }
 {
     let mut each = [false; 64];
-    let all = given_of(plan);
-    let mut d = 0;
-    while d < all {
-        each[d] = accessible(plan, links, marks, d);
-        d += 1;
+    for destination in 0..given_of(plan) {
+        each[destination] = accessible(plan, links, marks, destination);
     }
     each
 }
@@ -89,13 +85,11 @@ pub fn report_changes(
         (Change.changes_told (plan_of plan) (λ (d : ℕ). get_or before d false)
         (Change.is_accessible (plan_of plan) links.now marks.now) (log reports.old count)).area }
 {
-    let all = given_of(plan);
     let mut told = count;
-    let mut d = 0;
-    while d < all {
-        let after = accessible(plan, links, marks, d);
-        told = report_one(before[d], after, code_of(plan, d), reports, told);
-        d += 1;
+    for destination in 0..given_of(plan) {
+        let after = accessible(plan, links, marks, destination);
+        let code = code_of(plan, destination);
+        told = report_one(before[destination], after, code, reports, told);
     }
     told
 }

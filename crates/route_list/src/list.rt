@@ -32,11 +32,11 @@ pub fn route_list(
         return plain(2);
     }
     let start = put_header(out);
-    let count = put_lines(plan, links, marks, out, start);
+    let octets = put_lines(plan, links, marks, out, start);
     Answer {
         reply: 0,
         fsn: 0,
-        octets: count,
+        octets,
         reports: 0,
         delivers: false,
     }
@@ -67,13 +67,9 @@ fn put_lines(
     ensures value { result ≡ at + length (RouteList.all_lines links.now marks.now (plan_of plan)) }
     ensures out_after { out.new ≡ RouteList.laid out.old at (RouteList.all_lines links.now marks.now (plan_of plan)) }
 {
-    let many = count(plan);
-    let count = if many < 64 { many as usize } else { 64 };
     let mut end = at;
-    let mut destination = 0;
-    while destination < count {
+    for destination in 0..(count(plan) as usize).min(64) {
         end = put_line(plan, links, marks, destination, out, end);
-        destination += 1;
     }
     end
 }
@@ -118,11 +114,9 @@ fn put_words(
         never: NO_LINK,
     };
     let mut end = at;
-    let mut sls = 0u8;
-    while sls < 16 {
+    for sls in 0..16 {
         let link = choose(plan, links, marks, need, destination, sls);
         end = put_word(out, end, link);
-        sls += 1;
     }
     put_end(out, end)
 }

@@ -6,8 +6,8 @@ ghost use Rattle.std.specs.Prelude.{◌≡◌};
 ghost use Rattle.route_ways.specs.Way as Way;
 
 use constants::NO_LINK;
-use plan_words::find::seek;
-use route_choice::{choose, choose_by};
+use plan_words::find::find;
+use route_choice::choose;
 use route_serving::Need;
 
 // What user messages need: a carrying link.
@@ -46,17 +46,16 @@ pub fn directed(
 ) -> Direction
     ensures { result ≡ Way.direction_of (plan_of plan) links.now marks.now need point sls }
 {
-    let there = seek(plan, point);
-    let place = there.place;
-    if !there.given {
-        return Direction {
+    match find(plan, point) {
+        Ok(place) => {
+            let link = choose(plan, links, marks, need, place, sls);
+            Direction { link, place }
+        }
+        Err(place) => Direction {
             link: NO_LINK,
             place,
-        };
+        },
     }
-    let routes = there.routes;
-    let link = choose_by(plan, routes, links, marks, need, place, sls);
-    Direction { link, place }
 }
 
 // The link to a point for an SLS, 32 where there is none.
@@ -70,8 +69,7 @@ pub fn way(
 ) -> u8
     ensures { result ≡ Way.way_of (plan_of plan) links.now marks.now need point sls }
 {
-    let to = directed(plan, links, marks, need, point, sls);
-    to.link
+    directed(plan, links, marks, need, point, sls).link
 }
 
 // The link of a destination for an SLS, as user messages need it, 32 where there is none.

@@ -44,13 +44,12 @@ pub fn destination_timer(plan: &[u16; 1024], marks: &[u32; 512], x: u16, timer: 
     if !plan_words::read::given(plan) {
         return false;
     }
-    let found = find(plan, x);
-    if !found.given {
+    let Ok(place) = find(plan, x) else {
         return false;
-    }
+    };
     match timer {
-        6 => flag(marks, found.place, T6),
-        8 => flag(marks, found.place, T8),
+        6 => flag(marks, place, T6),
+        8 => flag(marks, place, T8),
         _ => false,
     }
 }
@@ -63,13 +62,12 @@ pub fn route_timer(plan: &[u16; 1024], marks: &[u32; 512], x: u16, set: u8) -> b
     if !plan_words::read::given(plan) {
         return false;
     }
-    let found = find(plan, x);
-    if !found.given {
+    let Ok(place) = find(plan, x) else {
         return false;
-    }
-    let rank = rank_by(plan, found.place, set);
+    };
+    let rank = rank_by(plan, place, set);
     if 4 <= rank {
         return false;
     }
-    flag(marks, found.place, rank)
+    flag(marks, place, rank)
 }

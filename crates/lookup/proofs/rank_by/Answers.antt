@@ -4,6 +4,7 @@ use mathlib.Core.Path.{◌∙◌}
 use Rattle.plan_words.specs.Words.{plan_at}
 use Rattle.plan_words.proofs.Said.{routes_within}
 use Rattle.lookup.specs.Lookup.{rank_by}
+use Rattle.lookup.proofs.Walks.{rank_found}
 use Rattle.lookup.proofs.rank_by.Goals as goal
 
 pub returns-then-destination-ge64 : goal.returns-then-destination-ge64
@@ -15,5 +16,10 @@ unfolding rank_by
 returns c =
     let a = c.args in
     let within = c.if-destination-ge64.false in
-    simp
-    (c.rank_among.ensures, c.destination_routes.ensures ∙ routes_within (plan_at a.plan.now) a.destination within, lt-ltb _ _ within)
+    simp (
+      c.unwrap_or.ensures,
+      c.rank_among.ensures,
+      rank_found,
+      c.destination_routes.ensures ∙ routes_within (plan_at a.plan.now) a.destination within,
+      lt-ltb _ _ within,
+    )

@@ -1,7 +1,6 @@
 -- `plan_store::store_ways` meets its contract. Assumes nothing.
 use borrow.Author.Rules.{rules}
 use mathlib.Core.Path.{◌≡◌}
-use native.Mathlib.Omega.{arith}
 use lib.ListN.{length}
 use Rattle.plan.specs.Data.{absent_destination}
 use Rattle.plan.proofs.Tables.{unmapped}
@@ -9,15 +8,12 @@ use Rattle.plan_store.specs.Layout.{route_words}
 use Rattle.plan_store.proofs.Placed.{placed_turn, placed_end}
 use Rattle.plan_store.proofs.store_ways.Goals as goal
 
-pub loop-i-preserved : goal.loop-i-preserved
-loop-i-preserved c =
+pub loop-place-preserved : goal.loop-place-preserved
+loop-place-preserved c =
     let all : length c.args.destinations ≡ 64 = search (rules, unmapped) in
-    let test = c in
-    let loop = test.loop-i in
-    (omega arith, placed_turn route_words 4 absent_destination 336 _ _ _ _ loop.i 64 all test.loop-i-test.true c.store_routes.ensures loop.invariant.1)
+    placed_turn route_words 4 absent_destination 336 _ _ _ _ c.loop-place.place 64 all c.loop-place-test.true c.store_routes.ensures c.loop-place.invariant
 
 pub returns : goal.returns
 returns c =
     let all : length c.args.destinations ≡ 64 = search (rules, unmapped) in
-    let loop = c.loop-i in
-    placed_end route_words 4 _ _ _ _ loop.i 64 all c.loop-i-test.false loop.invariant.1
+    placed_end route_words 4 _ _ _ _ c.loop-place.place 64 all c.loop-place-test.false c.loop-place.invariant

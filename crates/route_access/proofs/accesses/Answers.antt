@@ -8,24 +8,23 @@ use Rattle.route_access.specs.Change.{is_accessible}
 use Rattle.route_access.proofs.Filled.{filled_none, filled_next, filled_all}
 use Rattle.route_access.proofs.accesses.Goals as goal
 
-pub loop-d-init : goal.loop-d-init
-loop-d-init c =
+pub loop-destination-init : goal.loop-destination-init
+loop-destination-init c =
     let a = c.args in
-    (omega arith, refl, filled_none (is_accessible (plan_at a.plan.now) a.links.now a.marks.now) 64)
+    (refl, filled_none (is_accessible (plan_at a.plan.now) a.links.now a.marks.now) 64)
 
-pub loop-d-preserved : goal.loop-d-preserved
-loop-d-preserved c =
-    let l = c.loop-d in
+pub loop-destination-preserved : goal.loop-destination-preserved
+loop-destination-preserved c =
+    let l = c.loop-destination in
     let a = c.args in (
-      omega arith,
-      length-set l.each l.d c.accessible.result ∙ l.invariant.1,
-      filled_next (is_accessible (plan_at a.plan.now) a.links.now a.marks.now) l.each l.d c.accessible.result
-          (omega (arith, c.given_of-all.ensures, l.invariant.1)) c.accessible.ensures l.invariant.2,
+      length-set l.each l.destination c.accessible.result ∙ l.invariant.0,
+      filled_next (is_accessible (plan_at a.plan.now) a.links.now a.marks.now) l.each l.destination c.accessible.result
+          (omega (arith, c.given_of-destination-end.ensures, l.invariant.0, c.loop-destination-test.true)) c.accessible.ensures l.invariant.1,
     )
 
 pub returns : goal.returns
 returns c =
     let a = c.args in
-    let l = c.loop-d in
-    filled_all (plan_at a.plan.now) a.links.now a.marks.now l.each l.d
-    (omega (arith, c.given_of-all.ensures, c.loop-d-test.false, l.invariant.0)) l.invariant.1 l.invariant.2
+    let l = c.loop-destination in
+    filled_all (plan_at a.plan.now) a.links.now a.marks.now l.each l.destination
+    (omega (arith, c.given_of-destination-end.ensures, c.loop-destination-test.false, l.auto.destination-end)) l.invariant.0 l.invariant.1

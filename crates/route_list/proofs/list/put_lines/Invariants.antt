@@ -1,5 +1,5 @@
 -- `route_list::list::put_lines` meets its contract. The loop's invariant: the lines that are left, laid behind those written, make
--- all lines, and they have room. The measure is the destinations left.
+-- all lines, and they have room.
 -- Assumes nothing.
 use Prim.Native.Nat.{◌+◌, ◌-◌, ◌*◌, ◌≤◌}
 use lib.ListN.{length}
@@ -9,8 +9,6 @@ use Rattle.route_list.proofs.Laid.{Left}
 use Rattle.route_list.proofs.list.put_lines.Given as goal
 
 abbrev pub invariant-loop-destination : goal.invariant-loop-destination
-invariant-loop-destination l = (l.destination ≤ l.count) × ((l.end + 54 * (64 - l.destination) ≤ length l.out) ×
-    Left l.initial.out l.at (all_lines l.links l.marks (plan_at l.plan)) l.out l.end (lines_from l.links l.marks (plan_at l.plan) l.destination (l.count - l.destination)))
-
-abbrev pub decreases-loop-destination : goal.decreases-loop-destination
-decreases-loop-destination l = l.count - l.destination
+invariant-loop-destination l = (l.end + 54 * (64 - l.destination) ≤ length l.out) ×
+    Left l.initial.out l.at (all_lines l.links l.marks (plan_at l.plan)) l.out l.end
+    (lines_from l.links l.marks (plan_at l.plan) l.destination (l.destination-end - l.destination))

@@ -1,5 +1,5 @@
 -- `route_list::list::put_words` meets its contract. The loop's invariant: the words that are left, laid behind those written, make
--- the row, and they have room. The measure is the SLS left.
+-- the row, and they have room.
 -- Assumes nothing.
 use mathlib.Core.Path.{sym, ap, ◌∙◌}
 use mathlib.Core.List.{[], ◌∷◌, ◌++◌}
@@ -24,11 +24,8 @@ loop-sls-preserved c =
     let rest = in_row word (l.sls + 1) (16 - (l.sls + 1)) in
     let next = row_next word l.sls (omega arith) in
     let same = ap (λ (link : ℕ). (tab ∷ link_word link) ++ rest) (sym c.choose-link.ensures) in (
-      omega arith,
-      (
-        omega (arith, ap length done.out_after),
-        left_on l.invariant.1.1 (tab ∷ link_word link) rest _ _ (next ∙ same) (omega arith) (done.value, done.out_after),
-      ),
+      omega (arith, ap length done.out_after),
+      left_on l.invariant.1 (tab ∷ link_word link) rest _ _ (next ∙ same) (omega (arith, l.invariant.0)) (done.value, done.out_after),
     )
 
 pub returns : goal.returns
@@ -37,6 +34,6 @@ returns c =
     let a = c.args in
     let word = word_of a.links.now a.marks.now (plan_at a.plan.now) a.destination in
     let whole =
-    left_last l.invariant.1.1 (lf ∷ []) _ _ (row_end word l.sls (omega arith)) (c.put_end.ensures.value, c.put_end.ensures.out_after)
+    left_last l.invariant.1 (lf ∷ []) _ _ (row_end word l.sls (omega arith)) (c.put_end.ensures.value, c.put_end.ensures.out_after)
     in
     record { value = whole.0; out_after = whole.1 }

@@ -11,8 +11,8 @@ use Rattle.route_list.proofs.Laid.{laid_length, laid_on}
 use Rattle.route_list.proofs.Lines.{header_length}
 use Rattle.route_list.proofs.list.route_list.Goals as goal
 
-pub put_lines-count-requires : goal.put_lines-count-requires
-put_lines-count-requires c =
+pub put_lines-octets-requires : goal.put_lines-octets-requires
+put_lines-octets-requires c =
     let a = c.args in
     let header = c.put_header-start.ensures in
     let long = laid_length a.out.now 0 header_line (omega (arith, header_length)) in
@@ -23,7 +23,7 @@ returns c =
     let a = c.args in
     let all = all_lines a.links.now a.marks.now (plan_at a.plan.now) in
     let header = c.put_header-start.ensures in
-    let lines = c.put_lines-count.ensures in
+    let lines = c.put_lines-octets.ensures in
     let done =
     laid_on a.out.now 0 header_line (omega (arith, header_length)) all _ _ _ _
     (header.value ∙ sym (zero-add (length header_line)), header.out_after) (lines.value, lines.out_after)

@@ -1,9 +1,9 @@
--- `plan_words::find::seek` meets its contract: each turn halves what is left, and the measure is what is left.
+-- `plan_words::find::place_of` meets its contract: each turn halves what is left, and the measure is what is left.
 -- Assumes nothing.
 use Prim.Native.Nat.{◌-◌, ◌≤◌}
 use Rattle.plan.proofs.Halving.{Halving}
 use Rattle.plan_words.specs.Words.{plan_at}
-use Rattle.plan_words.proofs.find.seek.Given as goal
+use Rattle.plan_words.proofs.find.place_of.Given as goal
 
 abbrev pub invariant-loop-low : goal.invariant-loop-low
 invariant-loop-low l = (l.count ≤ 64) × (l.high ≤ l.count) × Halving (plan_at l.plan).destinations l.code l.count l.low l.high

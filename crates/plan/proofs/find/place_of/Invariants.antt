@@ -1,8 +1,8 @@
--- `plan::find::seek` meets its contract: each turn halves what is left, and the measure is what is left.
+-- `plan::find::place_of` meets its contract: each turn halves what is left, and the measure is what is left.
 -- Assumes nothing.
 use Prim.Native.Nat.{◌-◌, ◌≤◌}
 use Rattle.plan.proofs.Halving.{Halving}
-use Rattle.plan.proofs.find.seek.Given as goal
+use Rattle.plan.proofs.find.place_of.Given as goal
 
 abbrev pub invariant-loop-low : goal.invariant-loop-low
 invariant-loop-low l = (l.count ≤ 64) × (l.high ≤ l.count) × Halving l.destinations l.code l.count l.low l.high
