@@ -1,16 +1,13 @@
 -- A line that says something is of a kind that we know, and one that can't be read leaves the area as it was.
 -- Assumes nothing.
-use mathlib.Core.Path.{◌≡◌, refl, ap, subst, ◌∙◌}
+use mathlib.Core.Path.{◌≡◌, refl, ap, subst}
 use mathlib.Core.Bool.{Bool, true, false, cond}
 use mathlib.Core.List.{List, [], ◌++◌}
 use Prim.Native.Nat.{ℕ, ◌<◌}
-use native.Mathlib.Omega.{arith}
 use lib.Dec.{lit<}
 use lib.ListN.{length, drop, get_or}
-use borrow.Author.Tests.{eqb-true, ne_eqb}
 use Rattle.text.specs.Part.{split, tab}
-use Rattle.text_hex.specs.Hex.{readable, octets_of, count_of}
-use Rattle.text_fields.proofs.Listed.{some_part}
+use Rattle.text_hex.specs.Hex.{readable, octets_of}
 use Rattle.record_kinds.specs.declared.Kind.{Kind}
 use Rattle.record_kinds.specs.declared.Kind.TheVariants.{Service, Failure, Send, Acknowledged, Received, Host, Routes, T1, T2, T3, T4, T6, T8, T10}
 use Rattle.record_kinds.specs.Kind.{form_of, fields_of}

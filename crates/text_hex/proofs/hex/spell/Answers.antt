@@ -3,7 +3,7 @@
 use mathlib.Core.Path.{◌≡◌, sym, ap, ◌∙◌}
 use Prim.Native.Nat.{ℕ, ◌+◌, ◌*◌}
 use native.Mathlib.Omega.{arith}
-use lib.ListN.{length, length-set}
+use lib.ListN.{length}
 use mathlib.Core.List.{List}
 use Rattle.text_hex.specs.Hex.{hex_of}
 use Rattle.text_hex.proofs.Filling.{begun, begun_next, begun_all}
