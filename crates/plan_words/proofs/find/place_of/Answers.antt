@@ -1,7 +1,7 @@
 -- `plan_words::find::place_of` meets its contract: each turn halves what is left, and the measure is what is left.
 -- Assumes nothing.
 use mathlib.Core.Path.{◌≡◌, ap, ◌∙◌}
-use Prim.Native.Nat.{ℕ, ◌+◌, ◌-◌, ◌/◌}
+use Prim.Native.Nat.{◌+◌, ◌-◌, ◌/◌}
 use native.Mathlib.Omega.{arith}
 use Rattle.plan.specs.Find.{halved, given}
 use Rattle.plan.proofs.Halving.{halve_first, halve_up, halve_down, halve_last}
