@@ -1,8 +1,8 @@
 // What `--help` says.
 use tool_files::help;
+use tool_files::status::Status;
 
-// Answers the status.
-pub fn write(rt: &HostRuntime) -> u8 {
+pub fn write(rt: &HostRuntime) -> Status {
     help::write(
         rt,
         b"replay",

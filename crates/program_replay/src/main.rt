@@ -13,34 +13,34 @@ mod words;
 
 use options::Options;
 use std::process::ExitCode;
-use tool_files::{file, status};
+use text::part::between;
+use tool_files::arguments::{Files, Request};
+use tool_files::status::Status;
+use tool_files::{arguments, file};
 
 fn main(rt: HostRuntime) -> ExitCode {
-    let options = options::read(&rt);
-    status::tell(replay(&rt, options))
+    ExitCode::from(replay(&rt))
 }
 
-// What is asked for is done; answers the status.
-fn replay(rt: &HostRuntime, options: Options) -> u8 {
-    if options.arguments.help {
-        return help::write(rt);
+// What is asked for is done.
+fn replay(rt: &HostRuntime) -> Status {
+    match arguments::read(rt, Options::default()) {
+        Ok(Request::Help) => help::write(rt),
+        Ok(Request::Run(files, options)) => {
+            replay_files(rt, files, options).unwrap_or(Status::Failed)
+        }
+        Err(wrong) => {
+            arguments::tell(rt, b"replay", wrong);
+            Status::Failed
+        }
     }
-    if 0 < options.arguments.fault {
-        options::advise(rt, options);
-        return status::FAILED;
-    }
-    replay_files(rt, options)
 }
 
-// Both files are read before anything is written: of the record as much as one piece holds.
-fn replay_files(rt: &HostRuntime, options: Options) -> u8 {
+// Both files are read before anything is written: of the record as much as one piece holds. None where one can't be read, which is told.
+fn replay_files(rt: &HostRuntime, files: Files, options: Options) -> Option<Status> {
     let mut text = [0u8; 65536];
-    let Some(length) = file::read(rt, b"replay", options.arguments.configuration, &mut text) else {
-        return status::FAILED;
-    };
+    let length = file::read(rt, b"replay", files.configuration, &mut text)?;
     let mut piece = [0u8; 65536];
-    let Some(record) = file::begin(rt, b"replay", options.arguments.record, &mut piece) else {
-        return status::FAILED;
-    };
-    run::run(rt, options, &text, length, record, &mut piece)
+    let record = file::begin(rt, b"replay", files.record, &mut piece)?;
+    Some(run::run(rt, options, between(&text, 0, length), record, &mut piece))
 }
