@@ -10,6 +10,7 @@ use std::num::wrapping_add_usize;
 use text::part::between;
 use tool_files::complaint::complain_of;
 use tool_files::file::{File, next_piece, size};
+use tool_files::program::Program;
 use tool_files::progress::Progress;
 use tool_files::status::Status;
 use tool_files::target;
@@ -18,23 +19,24 @@ use tool_files::writer::onto;
 use tool_shift::{Node, beginning};
 use tool_words::lines::{Entry, entry_of};
 
-// The node that a configuration makes, and the calls of a record on it, of which the first piece is read.
-pub fn run(
-    rt: &HostRuntime,
-    options: Options,
-    configuration: &[u8],
-    record: File,
-    piece: &mut [u8; 65536],
-) -> Status {
-    let mut record = record;
-    let mut node = Node::empty();
-    if let Err(made) = node.start(configuration) {
-        return refuse(rt, options, made.line, made.fault);
+impl Program for Options {
+    fn run(
+        self,
+        rt: &HostRuntime,
+        configuration: &[u8],
+        record: File,
+        piece: &mut [u8; 65536],
+    ) -> Status {
+        let mut record = record;
+        let mut node = Node::empty();
+        if let Err(made) = node.start(configuration) {
+            return refuse(rt, self, made.line, made.fault);
+        }
+        match opened(rt, self, configuration, piece, &mut record) {
+            Some(outputs) => run_pieces(rt, &mut node, self, outputs, record, piece),
+            None => Status::Failed,
+        }
     }
-    let Some(begun) = opened(rt, options, configuration, piece, &mut record) else {
-        return Status::Failed;
-    };
-    run_pieces(rt, &mut node, options, begun, record, piece)
 }
 
 // Where the run writes to: standard output and the file of a capture, which has its head; none where that can't be opened. Of the record the first piece

@@ -9,34 +9,9 @@ mod run;
 
 use options::Options;
 use std::process::ExitCode;
-use text::part::between;
-use tool_files::arguments::{Files, Request};
-use tool_files::status::Status;
-use tool_files::{arguments, file};
+use tool_files::program;
 
 fn main(rt: HostRuntime) -> ExitCode {
-    ExitCode::from(trace(&rt))
-}
-
-// What is asked for is done.
-fn trace(rt: &HostRuntime) -> Status {
-    match arguments::read(rt, Options::default()) {
-        Ok(Request::Help) => help::write(rt),
-        Ok(Request::Run(files, options)) => {
-            trace_files(rt, files, options).unwrap_or(Status::Failed)
-        }
-        Err(wrong) => {
-            arguments::tell(rt, b"trace", wrong);
-            Status::Failed
-        }
-    }
-}
-
-// Both files are read before anything is written: of the record as much as one piece holds. None where one can't be read, which is told.
-fn trace_files(rt: &HostRuntime, files: Files, options: Options) -> Option<Status> {
-    let mut text = [0u8; 65536];
-    let length = file::read(rt, b"trace", files.configuration, &mut text)?;
-    let mut piece = [0u8; 65536];
-    let record = file::begin(rt, b"trace", files.record, &mut piece)?;
-    Some(run::run(rt, options, between(&text, 0, length), record, &mut piece))
+    let status = program::run(&rt, b"trace", help::TEXT, Options::default());
+    ExitCode::from(status)
 }

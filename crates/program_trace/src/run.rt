@@ -9,6 +9,7 @@ use std::rt::Stdout;
 use text::part::{between, line};
 use tool_files::complaint::complain_of;
 use tool_files::file::{File, next_piece, size};
+use tool_files::program::Program;
 use tool_files::progress::Progress;
 use tool_files::status::Status;
 use tool_files::target;
@@ -20,22 +21,23 @@ use trace_books::take::{Books, end};
 use trace_picture::file::Picture;
 use trace_rows::order::begin;
 
-// The node that a configuration makes, and the calls of a record on it, of which the first piece is read.
-pub fn run(
-    rt: &HostRuntime,
-    options: Options,
-    configuration: &[u8],
-    record: File,
-    piece: &mut [u8; 65536],
-) -> Status {
-    let mut record = record;
-    let mut node = Node::empty();
-    if let Err(made) = node.start(configuration) {
-        return refuse(rt, made.line, made.fault);
-    }
-    match opened(rt, options.picture, configuration, piece, &mut record) {
-        Ok(picture) => run_pieces(rt, &mut node, options.asked, picture, record, piece),
-        Err(status) => status,
+impl Program for Options {
+    fn run(
+        self,
+        rt: &HostRuntime,
+        configuration: &[u8],
+        record: File,
+        piece: &mut [u8; 65536],
+    ) -> Status {
+        let mut record = record;
+        let mut node = Node::empty();
+        if let Err(made) = node.start(configuration) {
+            return refuse(rt, made.line, made.fault);
+        }
+        match opened(rt, self.picture, configuration, piece, &mut record) {
+            Ok(picture) => run_pieces(rt, &mut node, self.asked, picture, record, piece),
+            Err(status) => status,
+        }
     }
 }
 
