@@ -5,10 +5,38 @@ use text::part::{between, field, line, same};
 use text_decimals::decimal::decimal;
 use text_hex::hex::hex;
 use tool_files::writer::{Writer, add, flush};
-use tool_words::lines::{Entry, entry_of, past_two, value};
+use tool_words::lines::{Entry, entry_of, lines_of, past_two, value};
 
-// The link type of MTP2 with a header before it; any other is MTP3 alone.
-const WITH_HEADER: u64 = 139;
+// What stands before each message: a header of MTP2 with its direction, or nothing.
+#[derive(Clone, Copy, PartialEq, Eq)]
+pub enum LinkType {
+    Mtp2,
+    Mtp3,
+}
+
+impl LinkType {
+    // The number that a capture says it by.
+    fn number(self) -> u64 {
+        match self {
+            LinkType::Mtp2 => 139,
+            LinkType::Mtp3 => 141,
+        }
+    }
+
+    // How many octets stand before each message.
+    fn length_before(self) -> usize {
+        match self {
+            LinkType::Mtp2 => 7,
+            LinkType::Mtp3 => 0,
+        }
+    }
+}
+
+#[derive(Clone, Copy)]
+enum Direction {
+    Received,
+    Sent,
+}
 
 // Where the capture stands: what is written, and the line of the record that was answered last.
 #[derive(Drop)]
@@ -17,28 +45,27 @@ struct Captured {
     entry: Entry,
 }
 
-// What stands before a message: whether it was sent, its link, its FSN and its length.
+// A message that was received or sent: its line of the record, its direction and its link.
 #[derive(Clone, Copy)]
-struct Header {
-    sent: u8,
+struct Packet {
+    line: u64,
+    direction: Direction,
     link: u64,
-    fsn: u64,
-    length: usize,
 }
 
 // The head of a capture, with its link type.
-pub fn begin(packets: Writer<File>, type_of_link: u64) -> Writer<File> {
+pub fn begin(packets: Writer<File>, link_type: LinkType) -> Writer<File> {
     let mut area = [0u8; 65536];
     let head = b"\xd4\xc3\xb2\xa1\x02\x00\x04\x00\x00\x00\x00\x00\x00\x00\x00\x00\x00\x00\x04\x00";
     let packets = add(packets, &mut area, head);
-    let packets = add_word(packets, &mut area, type_of_link);
+    let packets = add_word(packets, &mut area, link_type.number());
     flush(packets, &area)
 }
 
 // The packets of a turn: lines of the record from a number on, and the answers that are shown of them.
 pub fn take(
     packets: Writer<File>,
-    type_of_link: u64,
+    link_type: LinkType,
     lines: &[u8],
     first: u64,
     page: &[u8],
@@ -51,20 +78,8 @@ pub fn take(
             number: first,
         },
     };
-    let mut at = 0;
-    for _ in 0..page.len() {
-        let part = line(page, at);
-        if !part.closed {
-            break;
-        }
-        captured = take_answer(
-            captured,
-            &mut area,
-            type_of_link,
-            lines,
-            between(page, at, part.end),
-        );
-        at = part.next;
+    for answer in lines_of(page) {
+        captured = take_answer(captured, &mut area, link_type, lines, answer);
     }
     flush(captured.packets, &area)
 }
@@ -73,7 +88,7 @@ pub fn take(
 fn take_answer(
     captured: Captured,
     area: &mut [u8; 65536],
-    type_of_link: u64,
+    link_type: LinkType,
     lines: &[u8],
     answer: &[u8],
 ) -> Captured {
@@ -90,7 +105,7 @@ fn take_answer(
     let part = line(lines, at);
     let call = between(lines, at, part.end);
     Captured {
-        packets: take_call(captured.packets, area, type_of_link, told, call, answer),
+        packets: take_call(captured.packets, area, link_type, told, call, answer),
         entry,
     }
 }
@@ -99,56 +114,42 @@ fn take_answer(
 fn take_call(
     packets: Writer<File>,
     area: &mut [u8; 65536],
-    type_of_link: u64,
-    number: u64,
+    link_type: LinkType,
+    line: u64,
     call: &[u8],
     reply: &[u8],
 ) -> Writer<File> {
     let kind = field(call, 0, call.len());
     let link = field(call, kind.next, call.len());
     let of_link = value(between(call, kind.next, link.end), 0);
-    let word = between(call, 0, kind.end);
     let at = past_two(reply, 0);
     let told = field(reply, at, reply.len());
-    if same(word, b"send") {
-        return add_packet(
-            packets,
-            area,
-            type_of_link,
-            number,
-            1,
-            of_link,
-            between(reply, told.next, reply.len()),
-        );
-    }
-    if same(word, b"received") && taken(between(reply, at, told.end)) {
-        return add_packet(
-            packets,
-            area,
-            type_of_link,
-            number,
-            0,
-            of_link,
-            between(call, link.next, call.len()),
-        );
-    }
-    packets
+    let (direction, message) = match between(call, 0, kind.end) {
+        b"send" => (Direction::Sent, between(reply, told.next, reply.len())),
+        b"received" if is_taken(between(reply, at, told.end)) => {
+            (Direction::Received, between(call, link.next, call.len()))
+        }
+        _ => return packets,
+    };
+    let packet = Packet {
+        line,
+        direction,
+        link: of_link,
+    };
+    add_packet(packets, area, link_type, packet, message)
 }
 
-// Whether a reply says that the message was taken: 0, 3, 4, 9 and 11 do.
-fn taken(reply: &[u8]) -> bool {
-    same(reply, b"0")
-        || (same(reply, b"3") || (same(reply, b"4") || (same(reply, b"9") || same(reply, b"11"))))
+// Whether a reply says that the message was taken.
+fn is_taken(reply: &[u8]) -> bool {
+    matches!(reply, b"0" | b"3" | b"4" | b"9" | b"11")
 }
 
 // One packet, of an FSN and octets: its time and its length, twice, and its octets. A reply that sends nothing has none.
 fn add_packet(
     packets: Writer<File>,
     area: &mut [u8; 65536],
-    type_of_link: u64,
-    number: u64,
-    sent: u8,
-    link: u64,
+    link_type: LinkType,
+    packet: Packet,
     message: &[u8],
 ) -> Writer<File> {
     let fsn = field(message, 0, message.len());
@@ -159,19 +160,14 @@ fn add_packet(
     if count == 0 {
         return packets;
     }
-    let header = Header {
-        sent,
-        link,
-        fsn: value(between(message, 0, fsn.end), 0),
-        length: count,
-    };
-    let before = if type_of_link == WITH_HEADER { 7 } else { 0 };
+    let before = link_type.length_before();
     let length = wrapping_add_usize(before, count) as u64;
-    let packets = add_word(packets, area, number);
+    let header = header_of(packet, value(between(message, 0, fsn.end), 0), count);
+    let packets = add_word(packets, area, packet.line);
     let packets = add_word(packets, area, 0);
     let packets = add_word(packets, area, length);
     let packets = add_word(packets, area, length);
-    let packets = add_header(packets, area, header, before);
+    let packets = add(packets, area, between(&header, 0, before));
     add_octets(packets, area, &octets, count)
 }
 
@@ -184,48 +180,24 @@ fn add_octets(
     add(packets, area, between(octets, 0, count))
 }
 
-// Direction and link, and MTP2's own three octets: the BSN, which isn't known, the FSN, and how many octets follow; as many as are asked for.
-fn add_header(
-    packets: Writer<File>,
-    area: &mut [u8; 65536],
-    header: Header,
-    octets: usize,
-) -> Writer<File> {
-    let link = header.link;
-    let length = if header.length < 63 {
-        header.length
-    } else {
-        63
-    };
-    add(
-        packets,
-        area,
-        between(
-            &[
-                header.sent,
-                0,
-                (link / 256 % 256) as u8,
-                (link % 256) as u8,
-                255,
-                (128 + header.fsn % 128) as u8,
-                (length % 64) as u8,
-            ],
-            0,
-            octets,
-        ),
-    )
+// Direction and link, and MTP2's own three octets: the BSN, which isn't known, the FSN, and how many octets follow.
+fn header_of(packet: Packet, fsn: u64, count: usize) -> [u8; 7] {
+    let follow = if count < 63 { count } else { 63 };
+    [
+        match packet.direction {
+            Direction::Received => 0,
+            Direction::Sent => 1,
+        },
+        0,
+        (packet.link / 256 % 256) as u8,
+        (packet.link % 256) as u8,
+        255,
+        (128 + fsn % 128) as u8,
+        (follow % 64) as u8,
+    ]
 }
 
 // A word of 32 bits, its lowest octet first.
 fn add_word(packets: Writer<File>, area: &mut [u8; 65536], number: u64) -> Writer<File> {
-    add(
-        packets,
-        area,
-        &[
-            (number % 256) as u8,
-            (number / 256 % 256) as u8,
-            (number / 65536 % 256) as u8,
-            (number / 16777216 % 256) as u8,
-        ],
-    )
+    add(packets, area, between(&number.to_le_bytes(), 0, 4))
 }

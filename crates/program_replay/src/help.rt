@@ -1,12 +1,5 @@
 // What `--help` says.
-use tool_files::help;
-
-// Answers the status.
-pub fn write(rt: &HostRuntime) -> u8 {
-    help::write(
-        rt,
-        b"replay",
-        b"replay [OPTION..] CONFIGURATION RECORD
+pub const TEXT: &[u8] = b"replay [OPTION..] CONFIGURATION RECORD
 
 Makes a node from the configuration and the calls of the record on it, in order, and writes what each answers.
 Options stand anywhere among the files; behind -- all words are files.
@@ -24,6 +17,4 @@ Options stand anywhere among the files; behind -- all words are files.
 
 Exit status: 0 every line was run; 1 the configuration is refused or a line can't be read; 2 the arguments aren't right, or a file can't be
 read or written. docs/FORMATS.md says what is read and written.
-",
-    )
-}
+";

@@ -1,69 +1,46 @@
 // The calls of a record, in order, read piece by piece.
 use crate::options::Options;
-use crate::outputs;
 use crate::outputs::Outputs;
 use crate::show::{Asked, show};
+use crate::{capture, outputs};
 use replay_refusals::{put_fault, put_unreadable};
 use replay_shift::run::{Place, View};
-use start::start;
-use std::num::{wrapping_add_u64, wrapping_add_usize};
-use std::{fs, io};
+use std::fs;
+use std::num::wrapping_add_usize;
 use text::part::between;
 use tool_files::complaint::complain_of;
 use tool_files::file::{File, next_piece, size};
+use tool_files::program::Program;
+use tool_files::progress::Progress;
+use tool_files::status::Status;
+use tool_files::target;
+use tool_files::target::{Inputs, Manner};
 use tool_files::writer::onto;
-use tool_files::{progress, status, target};
-use tool_shift::{beginning, run_text};
+use tool_shift::{Node, beginning};
 use tool_words::lines::{Entry, entry_of};
 
-// The node that a configuration's text makes, and the calls of a record on it, of which the first piece is read. Answers the status.
-pub fn run(
-    rt: &HostRuntime,
-    options: Options,
-    text: &[u8; 65536],
-    length: usize,
-    record: File,
-    piece: &mut [u8; 65536],
-) -> u8 {
-    let mut record = record;
-    let configuration = between(text, 0, length);
-    let mut plan = [0u16; 1024];
-    let mut links = [0u32; 256];
-    let mut marks = [0u32; 512];
-    let mut spans = [0u16; 70];
-    let mut rings = [0u8; 8960];
-    let mut arrivals = [0u64; 1];
-    let made = start(
-        &mut plan,
-        &mut links,
-        &mut marks,
-        &mut spans,
-        &mut rings,
-        &mut arrivals,
-        configuration,
-    );
-    if 0 < made.fault {
-        return refuse(rt, options, made.line, made.fault);
+impl Program for Options {
+    fn run(
+        self,
+        rt: &HostRuntime,
+        configuration: &[u8],
+        record: File,
+        piece: &mut [u8; 65536],
+    ) -> Status {
+        let mut record = record;
+        let mut node = Node::empty();
+        if let Err(made) = node.start(configuration) {
+            return refuse(rt, self, made.line, made.fault);
+        }
+        match opened(rt, self, configuration, piece, &mut record) {
+            Some(outputs) => run_pieces(rt, &mut node, self, outputs, record, piece),
+            None => Status::Failed,
+        }
     }
-    let Some(begun) = opened(rt, options, configuration, piece, &mut record) else {
-        return status::FAILED;
-    };
-    run_pieces(
-        rt,
-        &plan,
-        &mut links,
-        &mut marks,
-        &mut spans,
-        &mut rings,
-        &mut arrivals,
-        options,
-        begun,
-        record,
-        piece,
-    )
 }
 
-// Where the run writes to: standard output and the file of a capture, none where that can't be opened. Of the record the first piece is read.
+// Where the run writes to: standard output and the file of a capture, which has its head; none where that can't be opened. Of the record the first piece
+// is read.
 fn opened(
     rt: &HostRuntime,
     options: Options,
@@ -71,30 +48,26 @@ fn opened(
     piece: &[u8; 65536],
     record: &mut File,
 ) -> Option<Outputs> {
-    let octets = size(&mut record.handle);
+    let inputs = Inputs {
+        configuration,
+        piece: between(piece, 0, record.count),
+        size_of_record: size(&mut record.handle),
+    };
     let mut packets = None;
-    if 0 < options.capture {
-        let capture = target::open(
-            rt,
-            b"replay",
-            options.capture,
-            true,
-            configuration,
-            between(piece, 0, record.count),
-            octets,
-        )?;
-        packets = Some(onto(capture));
+    if let Some(argument) = options.capture {
+        let file = target::open(rt, b"replay", argument, Manner::FrontToBack, inputs)?;
+        packets = Some(capture::begin(onto(file), options.link_type));
     }
     Some(Outputs {
         answers: onto(rt.stdout()),
         packets,
-        progress: progress::begin(rt, octets),
-        status: status::DONE,
+        progress: Progress::begin(rt, inputs.size_of_record),
+        status: Status::Done,
     })
 }
 
 // A configuration that is refused, alone in the output.
-fn refuse(rt: &HostRuntime, options: Options, line: usize, fault: u8) -> u8 {
+fn refuse(rt: &HostRuntime, options: Options, line: usize, fault: u8) -> Status {
     let mut out = [0u8; 64];
     let count = put_fault(&mut out, 0, line, fault);
     let asked = Asked {
@@ -104,9 +77,9 @@ fn refuse(rt: &HostRuntime, options: Options, line: usize, fault: u8) -> u8 {
     let answers = show(onto(rt.stdout()), asked, b"", 0, between(&out, 0, count));
     if let Some(error) = answers.failed {
         complain_of(rt, b"replay", b"standard output", error);
-        return status::FAILED;
+        return Status::Failed;
     }
-    status::REFUSED
+    Status::Refused
 }
 
 // Where a run stands: the next line, what is written, how much of the piece is filled, and whether nothing more is run.
@@ -121,39 +94,25 @@ struct Turn {
 // Turn after turn, up to the record's end, a line that can't be read, or the last that is shown.
 fn run_pieces(
     rt: &HostRuntime,
-    plan: &[u16; 1024],
-    links: &mut [u32; 256],
-    marks: &mut [u32; 512],
-    spans: &mut [u16; 70],
-    rings: &mut [u8; 8960],
-    arrivals: &mut [u64; 1],
+    node: &mut Node,
     options: Options,
     begun: Outputs,
     record: File,
     piece: &mut [u8; 65536],
-) -> u8 {
+) -> Status {
     let mut record = record;
-    let mut rows = [0u64; 2048];
-    let mut octets = [0u8; 52416];
     let mut page = [0u8; 262144];
     let mut counts = [0u64; 21];
     let mut turn = Turn {
         place: beginning(),
-        outputs: outputs::begin(begun, options),
+        outputs: begun,
         filled: record.count,
         ended: false,
     };
     for _ in 0..u64::MAX {
         turn = run_turn(
             rt,
-            plan,
-            links,
-            marks,
-            spans,
-            rings,
-            &mut rows,
-            &mut octets,
-            arrivals,
+            node,
             options,
             turn,
             &mut record.handle,
@@ -171,14 +130,7 @@ fn run_pieces(
 // The lines that end in the piece, as far as a page holds what they write; with none left, the next piece.
 fn run_turn(
     rt: &HostRuntime,
-    plan: &[u16; 1024],
-    links: &mut [u32; 256],
-    marks: &mut [u32; 512],
-    spans: &mut [u16; 70],
-    rings: &mut [u8; 8960],
-    rows: &mut [u64; 2048],
-    octets: &mut [u8; 52416],
-    arrivals: &mut [u64; 1],
+    node: &mut Node,
     options: Options,
     turn: Turn,
     handle: &mut fs::File,
@@ -188,20 +140,7 @@ fn run_turn(
 ) -> Turn {
     let before = turn.place;
     let limit = limit_of(piece, turn.filled, before, options);
-    let place = run_text(
-        plan,
-        links,
-        marks,
-        spans,
-        rings,
-        rows,
-        octets,
-        arrivals,
-        between(piece, 0, limit),
-        before,
-        view_of(options),
-        page,
-    );
+    let place = node.run(between(piece, 0, limit), before, view_of(options), page);
     let outputs = outputs::take(
         rt,
         turn.outputs,
@@ -241,60 +180,53 @@ fn read_on(
     piece: &mut [u8; 65536],
     counts: &mut [u64; 21],
 ) -> Turn {
-    let mut place = turn.place;
-    let next = next_piece(handle, piece, place.at, turn.filled);
-    place.at = 0;
-    let mut outputs = outputs::go_on(rt, turn.outputs, next.count);
-    let ended = next.count == 0;
-    if ended {
-        let rest = between(piece, 0, next.rest);
-        outputs = read_out(
-            rt,
-            outputs,
-            options,
-            rest,
-            next.failed,
-            place.number,
-            counts,
-        );
+    let mut next = turn;
+    let found = next_piece(handle, piece, next.place.at, next.filled);
+    next.place.at = 0;
+    match found {
+        Ok(found) if 0 < found.count => {
+            next.outputs.progress.go_on(rt, b"replay", found.count);
+            next.filled = wrapping_add_usize(found.rest, found.count);
+        }
+        Ok(found) => {
+            let rest = between(piece, 0, found.rest);
+            next.outputs = read_out(rt, next.outputs, options, rest, next.place.number, counts);
+            next.ended = true;
+        }
+        Err(error) => {
+            next.outputs = outputs::fail(rt, next.outputs, b"the record", error);
+            next.ended = true;
+        }
     }
-    Turn {
-        place,
-        outputs,
-        filled: wrapping_add_usize(next.rest, next.count),
-        ended,
-    }
+    next
 }
 
 fn view_of(options: Options) -> View {
     View {
         first: options.first,
-        last: options.last,
-        only: 0 < options.only,
+        last: options.last.unwrap_or(u64::MAX),
+        only: options.only.is_some(),
         fates: options.fates,
     }
 }
 
 // Where the lines that are run end: behind the last that is shown, unless a summary is asked for.
 fn limit_of(piece: &[u8; 65536], count: usize, place: Place, options: Options) -> usize {
-    if options.summary || options.last == u64::MAX {
-        return count;
+    match options.last {
+        Some(last) if !options.summary => {
+            let from = Entry {
+                at: place.at,
+                number: place.number,
+            };
+            entry_of(between(piece, 0, count), from, last.saturating_add(1)).at
+        }
+        _ => count,
     }
-    let from = Entry {
-        at: place.at,
-        number: place.number,
-    };
-    entry_of(
-        between(piece, 0, count),
-        from,
-        wrapping_add_u64(options.last, 1),
-    )
-    .at
 }
 
 // Whether a run ends before a line of the record: something is refused or failed, or nothing more is shown or counted.
-fn ends(options: Options, told: u8, number: u64) -> bool {
-    told != status::DONE || (!options.summary && options.last < number)
+fn ends(options: Options, status: Status, number: u64) -> bool {
+    status != Status::Done || (!options.summary && options.last.is_some_and(|last| last < number))
 }
 
 // The record has no more octets: those behind its last LF are no line.
@@ -303,14 +235,10 @@ fn read_out(
     outputs: Outputs,
     options: Options,
     rest: &[u8],
-    failed: Option<io::Error>,
     number: u64,
     counts: &mut [u64; 21],
 ) -> Outputs {
-    if let Some(error) = failed {
-        return outputs::fail(rt, outputs, b"the record", error);
-    }
-    if rest.len() == 0 {
+    if rest.is_empty() {
         return outputs;
     }
     let mut out = [0u8; 64];

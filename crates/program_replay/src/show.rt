@@ -4,7 +4,7 @@ use std::rt::Stdout;
 use text::part::{between, field, line, same};
 use text_decimals::decimal::decimal;
 use tool_files::writer::{Writer, add, flush, write};
-use tool_words::lines::{Entry, entry_of};
+use tool_words::lines::{Entry, entry_of, lines_of};
 
 // What is asked for: the call before each answer, and words behind what is a number.
 #[derive(Clone, Copy)]
@@ -39,14 +39,8 @@ pub fn show(
             number: first,
         },
     };
-    let mut at = 0;
-    for _ in 0..page.len() {
-        let part = line(page, at);
-        if !part.closed {
-            break;
-        }
-        shown = show_line(shown, &mut area, asked, lines, between(page, at, part.end));
-        at = part.next;
+    for answer in lines_of(page) {
+        shown = show_line(shown, &mut area, asked, lines, answer);
     }
     flush(shown.output, &area)
 }

@@ -1,12 +1,5 @@
 // What `--help` says.
-use tool_files::help;
-
-// Answers the status.
-pub fn write(rt: &HostRuntime) -> u8 {
-    help::write(
-        rt,
-        b"trace",
-        b"trace [OPTION..] CONFIGURATION RECORD
+pub const TEXT: &[u8] = b"trace [OPTION..] CONFIGURATION RECORD
 
 Makes a node from the configuration and the calls of the record on it, in order, and writes a line for each message that was queued: its
 arrival number, the record's line that brought it, origin, destination, SLS, what it is, and what became of it.
@@ -25,6 +18,4 @@ Options stand anywhere among the files; behind -- all words are files.
 
 Exit status: 0 every line was run; 1 the configuration is refused or a line can't be read; 2 the arguments aren't right, or a file can't be
 read or written. docs/FORMATS.md says what is read and written.
-",
-    )
-}
+";

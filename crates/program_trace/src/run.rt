@@ -3,174 +3,140 @@ use crate::call::{Outputs, take_call};
 use crate::options::Options;
 use replay_refusals::{put_fault, put_unreadable};
 use replay_shift::run::{Place, View};
-use start::start;
+use std::fs;
 use std::num::wrapping_add_usize;
 use std::rt::Stdout;
-use std::{fs, io};
 use text::part::{between, line};
 use tool_files::complaint::complain_of;
 use tool_files::file::{File, next_piece, size};
+use tool_files::program::Program;
 use tool_files::progress::Progress;
-use tool_files::status::{DONE, FAILED, REFUSED};
+use tool_files::status::Status;
+use tool_files::target;
+use tool_files::target::{Inputs, Manner};
 use tool_files::writer::{Writer, add, flush, onto, write};
-use tool_files::{progress, target};
-use tool_shift::{beginning, run_text};
+use tool_shift::{Node, beginning};
 use trace_books::asked::Asked;
 use trace_books::take::{Books, end};
 use trace_picture::file::Picture;
 use trace_rows::order::begin;
 
-// The node that a configuration makes, and the calls of a record on it, of which the first piece is read. Answers the status.
-pub fn run(
-    rt: &HostRuntime,
-    options: Options,
-    text: &[u8; 65536],
-    length: usize,
-    mut record: File,
-    piece: &mut [u8; 65536],
-) -> u8 {
-    let configuration = between(text, 0, length);
-    let mut plan = [0u16; 1024];
-    let mut links = [0u32; 256];
-    let mut marks = [0u32; 512];
-    let mut spans = [0u16; 70];
-    let mut rings = [0u8; 8960];
-    let mut arrivals = [0u64; 1];
-    let made = start(
-        &mut plan,
-        &mut links,
-        &mut marks,
-        &mut spans,
-        &mut rings,
-        &mut arrivals,
-        configuration,
-    );
-    if 0 < made.fault {
-        return refuse(rt, made.line, made.fault);
+impl Program for Options {
+    fn run(
+        self,
+        rt: &HostRuntime,
+        configuration: &[u8],
+        record: File,
+        piece: &mut [u8; 65536],
+    ) -> Status {
+        let mut record = record;
+        let mut node = Node::empty();
+        if let Err(made) = node.start(configuration) {
+            return refuse(rt, made.line, made.fault);
+        }
+        match opened(rt, self.picture, configuration, piece, &mut record) {
+            Ok(picture) => run_pieces(rt, &mut node, self.asked, picture, record, piece),
+            Err(status) => status,
+        }
     }
-    let picture = opened(rt, options.picture, configuration, piece, &mut record);
-    if 0 < options.picture && picture.is_none() {
-        return FAILED;
-    }
-    run_pieces(
-        rt,
-        &plan,
-        &mut links,
-        &mut marks,
-        &mut spans,
-        &mut rings,
-        &mut arrivals,
-        options.asked,
-        picture,
-        record,
-        piece,
-    )
 }
 
 // The file of the picture, where one is asked for.
 fn opened(
     rt: &HostRuntime,
-    picture: usize,
+    picture: Option<usize>,
     configuration: &[u8],
     piece: &[u8; 65536],
     record: &mut File,
-) -> Option<fs::File> {
-    if picture == 0 {
-        return None;
-    }
-    target::open(
-        rt,
-        b"trace",
-        picture,
-        false,
+) -> Result<Option<fs::File>, Status> {
+    let Some(argument) = picture else {
+        return Ok(None);
+    };
+    let inputs = Inputs {
         configuration,
-        between(piece, 0, record.count),
-        size(&mut record.handle),
-    )
+        piece: between(piece, 0, record.count),
+        size_of_record: size(&mut record.handle),
+    };
+    match target::open(rt, b"trace", argument, Manner::InPlaces, inputs) {
+        Some(file) => Ok(Some(file)),
+        None => Err(Status::Failed),
+    }
 }
 
 // A configuration that is refused, alone in the output.
-fn refuse(rt: &HostRuntime, line: usize, fault: u8) -> u8 {
+fn refuse(rt: &HostRuntime, line: usize, fault: u8) -> Status {
     let mut out = [0u8; 64];
     let length = put_fault(&mut out, 0, line, fault);
     let last = write(onto(rt.stdout()), between(&out, 0, length));
-    told(rt, last, REFUSED)
+    told(rt, last, Status::Refused)
 }
 
 // The status; another where standard output couldn't be written, which is told.
-fn told(rt: &HostRuntime, last: Writer<Stdout>, status: u8) -> u8 {
+fn told(rt: &HostRuntime, last: Writer<Stdout>, status: Status) -> Status {
     if let Some(error) = last.failed {
         complain_of(rt, b"trace", b"standard output", error);
-        return FAILED;
+        return Status::Failed;
     }
     status
 }
 
-// Where a run stands: the next line, what is written, how far it is, how much of the piece is filled; its status, and whether nothing more is run.
+// Where a run stands: the next line, what is written, how far it is, how much of the piece is filled; its status, where nothing more is run.
 #[derive(Drop)]
 struct Turn {
     place: Place,
     outputs: Outputs,
     progress: Progress,
     filled: usize,
-    status: u8,
-    ended: bool,
+    ended: Option<Status>,
+}
+
+// What is kept between the lines: the links and when they failed, the messages that are held, and what isn't written yet.
+#[derive(Drop)]
+struct Areas {
+    known: [u32; 256],
+    failures: [Option<u64>; 32],
+    order: [u8; 256],
+    held: [u64; 8192],
+    area: [u8; 65536],
+    drawing: [u8; 65536],
 }
 
 // Turn after turn, up to the record's end or a line that can't be read.
 fn run_pieces(
     rt: &HostRuntime,
-    plan: &[u16; 1024],
-    links: &mut [u32; 256],
-    marks: &mut [u32; 512],
-    spans: &mut [u16; 70],
-    rings: &mut [u8; 8960],
-    arrivals: &mut [u64; 1],
+    node: &mut Node,
     asked: Asked,
     picture: Option<fs::File>,
-    mut record: File,
+    record: File,
     piece: &mut [u8; 65536],
-) -> u8 {
-    let mut rows = [0u64; 2048];
-    let mut octets = [0u8; 52416];
+) -> Status {
+    let mut record = record;
     let mut page = [0u8; 262144];
-    let mut known = [0u32; 256];
-    let mut failures = [None; 32];
-    let mut order = [0u8; 256];
-    let mut held = [0u64; 8192];
-    let mut area = [0u8; 65536];
-    let mut drawing = [0u8; 65536];
-    let mut turn = first_turn(rt, picture, &mut record, &mut order, &mut drawing);
-    let mut turns = u64::MAX;
-    while 0 < turns {
-        turns -= 1;
+    let mut areas = Areas {
+        known: [0; 256],
+        failures: [None; 32],
+        order: [0; 256],
+        held: [0; 8192],
+        area: [0; 65536],
+        drawing: [0; 65536],
+    };
+    let mut turn = first_turn(rt, picture, &mut record, &mut areas);
+    for _ in 0..u64::MAX {
         turn = run_turn(
             rt,
-            plan,
-            links,
-            marks,
-            spans,
-            rings,
-            &mut rows,
-            &mut octets,
-            arrivals,
+            node,
             asked,
             turn,
             &mut record.handle,
             piece,
             &mut page,
-            &mut known,
-            &mut failures,
-            &mut order,
-            &mut held,
-            &mut area,
-            &mut drawing,
+            &mut areas,
         );
-        if turn.ended {
+        if turn.ended.is_some() {
             break;
         }
     }
-    finish(rt, turn, asked, &order, &held, &mut area, &mut drawing)
+    finish(rt, turn, asked, &mut areas)
 }
 
 // Nothing is run yet: no message is held, and the picture has its head.
@@ -178,10 +144,9 @@ fn first_turn(
     rt: &HostRuntime,
     picture: Option<fs::File>,
     record: &mut File,
-    order: &mut [u8; 256],
-    drawing: &mut [u8; 65536],
+    areas: &mut Areas,
 ) -> Turn {
-    begin(order);
+    begin(&mut areas.order);
     Turn {
         place: beginning(),
         outputs: Outputs {
@@ -189,12 +154,11 @@ fn first_turn(
                 count: 0,
                 lines: onto(rt.stdout()),
             },
-            picture: begun(picture, drawing),
+            picture: begun(picture, &mut areas.drawing),
         },
-        progress: progress::begin(rt, size(&mut record.handle)),
+        progress: Progress::begin(rt, size(&mut record.handle)),
         filled: record.count,
-        status: DONE,
-        ended: false,
+        ended: None,
     }
 }
 
@@ -209,64 +173,38 @@ fn begun(picture: Option<fs::File>, drawing: &mut [u8; 65536]) -> Option<Picture
 // The next line that ends in the piece, and its answer brought into the books; with none left, the next piece.
 fn run_turn(
     rt: &HostRuntime,
-    plan: &[u16; 1024],
-    links: &mut [u32; 256],
-    marks: &mut [u32; 512],
-    spans: &mut [u16; 70],
-    rings: &mut [u8; 8960],
-    rows: &mut [u64; 2048],
-    octets: &mut [u8; 52416],
-    arrivals: &mut [u64; 1],
+    node: &mut Node,
     asked: Asked,
     turn: Turn,
     handle: &mut fs::File,
     piece: &mut [u8; 65536],
     page: &mut [u8; 262144],
-    known: &mut [u32; 256],
-    failures: &mut [Option<u64>; 32],
-    order: &mut [u8; 256],
-    held: &mut [u64; 8192],
-    area: &mut [u8; 65536],
-    drawing: &mut [u8; 65536],
+    areas: &mut Areas,
 ) -> Turn {
     let before = turn.place;
     let end_of_line = next_line(piece, turn.filled, before.at);
-    let place = run_text(
-        plan,
-        links,
-        marks,
-        spans,
-        rings,
-        rows,
-        octets,
-        arrivals,
-        between(piece, 0, end_of_line),
-        before,
-        all(),
-        page,
-    );
+    let place = node.run(between(piece, 0, end_of_line), before, all(), page);
     if place.at <= before.at {
         return read_on(rt, turn, handle, piece);
     }
-    let progress = turn.progress;
-    let filled = turn.filled;
-    let outputs = take_call(
-        plan,
-        links,
-        rows,
+    let mut next = turn;
+    next.outputs = take_call(
+        &node.plan,
+        &node.links,
+        &node.rows,
         between(piece, before.at, end_of_line),
         before.number,
         between(page, 0, place.pending),
         asked,
-        turn.outputs,
-        known,
-        failures,
-        order,
-        held,
-        area,
-        drawing,
+        next.outputs,
+        &mut areas.known,
+        &mut areas.failures,
+        &mut areas.order,
+        &mut areas.held,
+        &mut areas.area,
+        &mut areas.drawing,
     );
-    taken(place, outputs, progress, filled)
+    taken(next, place)
 }
 
 // A trace looks at every answer, with its fates.
@@ -280,153 +218,103 @@ fn all() -> View {
 }
 
 // A line was run, and its answer taken.
-fn taken(after: Place, outputs: Outputs, progress: Progress, filled: usize) -> Turn {
-    let mut place = after;
-    place.pending = 0;
-    let status = status_of(place.readable, &outputs);
-    Turn {
-        place,
-        outputs,
-        progress,
-        filled,
-        status,
-        ended: status != DONE,
+fn taken(turn: Turn, place: Place) -> Turn {
+    let mut next = turn;
+    next.place = place;
+    next.place.pending = 0;
+    if is_failed(&next.outputs) {
+        next.ended = Some(Status::Failed);
+    } else if !place.readable {
+        next.ended = Some(Status::Refused);
     }
+    next
 }
 
-// What the piece cuts goes to the front of the next; with no next one the run has ended.
-fn read_on(rt: &HostRuntime, turn: Turn, handle: &mut fs::File, piece: &mut [u8; 65536]) -> Turn {
-    let mut place = turn.place;
-    let next = next_piece(handle, piece, place.at, turn.filled);
-    place.at = 0;
-    let progress = progress::on(rt, turn.progress, b"trace", next.count);
-    let ended = next.count == 0;
-    let mut status = DONE;
-    if ended {
-        status = status_at_end(rt, progress, next.failed, next.rest);
+// Whether something couldn't be written.
+fn is_failed(outputs: &Outputs) -> bool {
+    if outputs.books.lines.failed.is_some() {
+        return true;
     }
-    Turn {
-        place,
-        outputs: turn.outputs,
-        progress,
-        filled: wrapping_add_usize(next.rest, next.count),
-        status,
-        ended,
-    }
-}
-
-// Where the line that begins at a place of a piece ends, its LF among it; the piece's end where it cuts the line.
-fn next_line(piece: &[u8; 65536], length: usize, at: usize) -> usize {
-    let part = line(between(piece, 0, length), at);
-    part.next
-}
-
-fn status_of(readable: bool, outputs: &Outputs) -> u8 {
-    if outputs.books.lines.failed.is_some() || undrawn(&outputs.picture) {
-        return FAILED;
-    }
-    if readable {
-        return DONE;
-    }
-    REFUSED
-}
-
-// Whether a picture is asked for and couldn't be written.
-fn undrawn(picture: &Option<Picture>) -> bool {
-    match picture {
+    match &outputs.picture {
         Some(picture) => picture.file.failed.is_some(),
         None => false,
     }
 }
 
-// The record has no more octets: those behind its last LF are no line.
-fn status_at_end(
-    rt: &HostRuntime,
-    progress: Progress,
-    failed: Option<io::Error>,
-    rest: usize,
-) -> u8 {
-    if let Some(error) = failed {
-        progress::clear(rt, progress);
-        complain_of(rt, b"trace", b"the record", error);
-        return FAILED;
+// What the piece cuts goes to the front of the next; with no next one the run has ended, and octets behind the record's last LF are no line.
+fn read_on(rt: &HostRuntime, turn: Turn, handle: &mut fs::File, piece: &mut [u8; 65536]) -> Turn {
+    let mut next = turn;
+    let found = next_piece(handle, piece, next.place.at, next.filled);
+    next.place.at = 0;
+    match found {
+        Ok(found) if 0 < found.count => {
+            next.progress.go_on(rt, b"trace", found.count);
+            next.filled = wrapping_add_usize(found.rest, found.count);
+        }
+        Ok(found) => {
+            next.ended = Some(if found.rest == 0 {
+                Status::Done
+            } else {
+                Status::Refused
+            });
+        }
+        Err(error) => {
+            next.progress.clear(rt);
+            complain_of(rt, b"trace", b"the record", error);
+            next.ended = Some(Status::Failed);
+        }
     }
-    if rest == 0 {
-        return DONE;
-    }
-    REFUSED
+    next
 }
 
-// The run has ended, and the picture with it: one that couldn't be written has told so. Answers the status.
-fn finish(
-    rt: &HostRuntime,
-    turn: Turn,
-    asked: Asked,
-    order: &[u8; 256],
-    held: &[u64; 8192],
-    area: &mut [u8; 65536],
-    drawing: &mut [u8; 65536],
-) -> u8 {
-    progress::clear(rt, turn.progress);
-    let place = turn.place;
+// Where the line that begins at a place of a piece ends, its LF among it; the piece's end where it cuts the line.
+fn next_line(piece: &[u8; 65536], length: usize, at: usize) -> usize {
+    line(between(piece, 0, length), at).next
+}
+
+// The run has ended, and the picture with it: one that couldn't be written has told so.
+fn finish(rt: &HostRuntime, turn: Turn, asked: Asked, areas: &mut Areas) -> Status {
+    turn.progress.clear(rt);
+    let number = turn.place.number;
+    let ended = turn.ended.unwrap_or(Status::Done);
     let outputs = turn.outputs;
-    let status = finish_lines(
-        rt,
-        turn.status,
-        place.number,
-        asked,
-        outputs.books,
-        order,
-        held,
-        area,
-    );
-    if drawn(rt, outputs.picture, drawing) {
-        return status;
+    let status = finish_lines(rt, ended, number, asked, outputs.books, areas);
+    if is_drawn(rt, outputs.picture, &mut areas.drawing) {
+        status
+    } else {
+        Status::Failed
     }
-    FAILED
 }
 
 // Whether the picture, where one is asked for, could be ended.
-fn drawn(rt: &HostRuntime, picture: Option<Picture>, drawing: &mut [u8; 65536]) -> bool {
+fn is_drawn(rt: &HostRuntime, picture: Option<Picture>, drawing: &mut [u8; 65536]) -> bool {
     match picture {
         Some(picture) => trace_picture::file::end(rt, picture, drawing),
         None => true,
     }
 }
 
-// The messages that are still held, and the line that couldn't be read. Answers the status.
+// The messages that are still held, and the line that couldn't be read.
 fn finish_lines(
     rt: &HostRuntime,
-    status: u8,
+    status: Status,
     number: u64,
     asked: Asked,
     books: Books<Stdout>,
-    order: &[u8; 256],
-    held: &[u64; 8192],
-    area: &mut [u8; 65536],
-) -> u8 {
-    let mut lines = if status == FAILED {
-        books.lines
-    } else {
-        end(books, asked, order, held, area)
+    areas: &mut Areas,
+) -> Status {
+    let mut lines = match status {
+        Status::Failed => books.lines,
+        _ => end(books, asked, &areas.order, &areas.held, &mut areas.area),
     };
-    if status == REFUSED {
-        lines = with_refused(lines, area, number);
+    if status == Status::Refused {
+        lines = with_refused(lines, &mut areas.area, number);
     }
-    told(rt, flush(lines, area), status)
+    told(rt, flush(lines, &areas.area), status)
 }
 
 fn with_refused(lines: Writer<Stdout>, area: &mut [u8; 65536], number: u64) -> Writer<Stdout> {
     let mut out = [0u8; 64];
     let length = put_unreadable(&mut out, 0, number);
-    refused(lines, area, &out, length)
-}
-
-fn refused(
-    lines: Writer<Stdout>,
-    area: &mut [u8; 65536],
-    out: &[u8; 64],
-    length: usize,
-) -> Writer<Stdout> {
-    add(lines, area, between(out, 0, length))
+    add(lines, area, between(&out, 0, length))
 }

@@ -1,237 +1,258 @@
-// The arguments of a program that reads a configuration and a record: the places of both files, and the first word that is wrong.
+// The arguments of a program that reads a configuration and a record: the places of both files, what its own options ask for, and the first word that
+// is wrong.
 use crate::complaint::complain;
 use std::env::FillError;
-use std::num::{wrapping_add_usize, wrapping_sub_u64};
+use std::fmt;
+use std::fmt::{Display, Formatter};
+use std::num::wrapping_add_usize;
 use std::rt::Env;
-use text::part::{between, same};
-use tool_words::lines::{number_of, numbered};
+use text::part::between;
+use text_decimals::decimal::decimal;
 
-// The places of words among the arguments are 0 where the word isn't there.
+// The places of both files among the arguments.
 #[derive(Clone, Copy)]
-pub struct Arguments {
+pub struct Files {
     pub configuration: usize,
     pub record: usize,
-    // Whether help is asked for.
-    pub help: bool,
-    // What is wrong, 0 for nothing, and the place of the word that is.
-    pub fault: u64,
-    pub word: usize,
-    // The place of the next word, and whether it is a file whatever it begins with.
-    pub next: usize,
-    pub ended: bool,
 }
 
-// The arguments with one word more: the program's own option that it is, by its number (0 for any other word), the option's place, and that of the value
-// behind it.
+// What the arguments ask for.
+#[derive(Clone, Copy, Drop)]
+pub enum Request<O> {
+    Help,
+    Run(Files, O),
+}
+
+// What can be wrong: with the arguments of every program, or with a program's own options.
+#[derive(Clone, Copy, Drop)]
+pub enum Fault<F> {
+    UnknownOption,
+    ValueMissing,
+    NoLine,
+    ThirdFile,
+    RecordMissing,
+    FilesMissing,
+    Own(F),
+}
+
+// What to do about it; it stands behind the word that is wrong.
+impl<F: Display> Display for Fault<F> {
+    fn fmt<W: fmt::Write>(&self, f: &mut Formatter<W>) -> fmt::Result {
+        match self {
+            Fault::UnknownOption => f.write_str(": there is no such option; --help names all"),
+            Fault::ValueMissing => f.write_str(": its value is missing; --help says which"),
+            Fault::NoLine => f.write_str(": not the number of a line; write digits alone"),
+            Fault::ThirdFile => f.write_str(": a third file; name a configuration and a record"),
+            Fault::RecordMissing => {
+                f.write_str(": no record behind the configuration; name both")
+            }
+            Fault::FilesMissing => f.write_str(
+                "no files are named; name a configuration and a record, or ask --help",
+            ),
+            Fault::Own(fault) => fault.fmt(f),
+        }
+    }
+}
+
+// A fault, and the place of the word that it is said of, if it is one's.
+#[derive(Clone, Copy, Drop)]
+pub struct Wrong<F> {
+    pub fault: Fault<F>,
+    pub word: Option<usize>,
+}
+
+// The places of an option that has a value, and of the value behind it.
 #[derive(Clone, Copy)]
-pub struct Word {
-    pub arguments: Arguments,
-    pub option: u64,
-    pub at: usize,
+pub struct Places {
+    pub option: usize,
     pub value: usize,
 }
 
-// What can be wrong, in the order of the advice in `advise`. A program's own faults stand from `OWN` on.
-pub const NO_LINE: u64 = 3;
+// A program's own options: flags, which stand alone, and settings, which have a value behind them.
+pub trait OwnOptions {
+    type Setting: Copy;
 
-pub const OWN: u64 = 7;
+    type Fault;
 
-const UNKNOWN: u64 = 1;
+    // Whether a word is a flag. What it asks for is noted.
+    fn set_flag(&mut self, word: &[u8]) -> bool;
 
-const VALUE_MISSING: u64 = 2;
+    // The setting that a word names.
+    fn setting_of(word: &[u8]) -> Option<Self::Setting>;
 
-const THIRD_FILE: u64 = 4;
+    // What a setting asks for is noted.
+    fn set(
+        &mut self,
+        setting: Self::Setting,
+        value: &[u8],
+        places: Places,
+    ) -> Result<(), Fault<Self::Fault>>;
 
-const RECORD_MISSING: u64 = 5;
+    // Whether all that is asked for can be done together.
+    fn agree(&self) -> Result<(), Wrong<Self::Fault>>;
+}
 
-const FILES_MISSING: u64 = 6;
+// What is read so far: the place of the next word, and whether it is a file whatever it begins with.
+#[derive(Clone, Copy)]
+struct Reading {
+    configuration: Option<usize>,
+    record: Option<usize>,
+    next: usize,
+    ended: bool,
+}
 
-// No word is read yet.
-pub fn unread() -> Arguments {
-    Arguments {
-        configuration: 0,
-        record: 0,
-        help: false,
-        fault: 0,
-        word: 0,
+// What a word leaves to be done.
+#[derive(Clone, Copy)]
+enum Step {
+    GoOn,
+    Help,
+    End,
+}
+
+// Word after word, up to the first that is wrong or asks for help. The options are those that hold where none is named.
+pub fn read<O: OwnOptions + Drop>(
+    rt: &HostRuntime,
+    options: O,
+) -> Result<Request<O>, Wrong<O::Fault>> {
+    let mut options = options;
+    let mut reading = Reading {
+        configuration: None,
+        record: None,
         next: 1,
         ended: false,
-    }
-}
-
-// How many words there are, the first of which is the program's name.
-pub fn count(rt: &HostRuntime) -> usize {
-    for at in 0..usize::MAX {
-        if is_missing(rt, at) {
-            return at;
+    };
+    for _ in 0..usize::MAX {
+        match take_word(rt, &mut reading, &mut options)? {
+            Step::GoOn => {}
+            Step::Help => return Ok(Request::Help),
+            Step::End => break,
         }
     }
-    usize::MAX
+    let files = files_of(reading)?;
+    options.agree()?;
+    Ok(Request::Run(files, options))
 }
 
-fn is_missing(rt: &HostRuntime, at: usize) -> bool {
-    let mut area = [0u8; 4096];
-    matches!(rt.arg(at, &mut area), Err(FillError::NotPresent))
-}
-
-// The word at a place, put into an area; how long it is, 0 where it isn't there or is too long.
-pub fn word_at(rt: &HostRuntime, at: usize, area: &mut [u8; 4096]) -> usize {
-    rt.arg(at, area).unwrap_or(0)
-}
-
-// Whether no word is read any more: none is left, one is wrong, or one asks for help.
-pub fn ends(rt: &HostRuntime, arguments: Arguments) -> bool {
-    is_missing(rt, arguments.next) || settled(arguments)
-}
-
-// Whether the words behind don't count: one is wrong, or asks for help.
-pub fn settled(arguments: Arguments) -> bool {
-    arguments.help || 0 < arguments.fault
+// Both files are named.
+fn files_of<F>(reading: Reading) -> Result<Files, Wrong<F>> {
+    let Some(configuration) = reading.configuration else {
+        return Err(Wrong {
+            fault: Fault::FilesMissing,
+            word: None,
+        });
+    };
+    let Some(record) = reading.record else {
+        return wrong_at(Fault::RecordMissing, configuration);
+    };
+    Ok(Files {
+        configuration,
+        record,
+    })
 }
 
 // The word at a place is wrong.
-pub fn wrong(arguments: Arguments, fault: u64, word: usize) -> Arguments {
-    let mut next = arguments;
-    next.fault = fault;
-    next.word = word;
-    next
+fn wrong_at<T, F>(fault: Fault<F>, place: usize) -> Result<T, Wrong<F>> {
+    Err(Wrong {
+        fault,
+        word: Some(place),
+    })
 }
 
-// The next word: a file, or an option. The program names its own, a line for each: first so many that stand alone, then those with a value behind them.
-pub fn next_word(rt: &HostRuntime, arguments: Arguments, names: &[u8], flags: u64) -> Word {
+// The word at a place, in a lent area; none where there is none. One that the area can't hold is empty.
+pub fn word_at<'a>(rt: &HostRuntime, at: usize, area: &'a mut [u8; 4096]) -> Option<&'a [u8]> {
+    match rt.arg(at, area) {
+        Ok(length) => Some(between(area, 0, length)),
+        Err(FillError::TooLong) => Some(b""),
+        Err(FillError::NotPresent) => None,
+    }
+}
+
+// The next word: a file, or an option.
+fn take_word<O: OwnOptions>(
+    rt: &HostRuntime,
+    reading: &mut Reading,
+    options: &mut O,
+) -> Result<Step, Wrong<O::Fault>> {
     let mut area = [0u8; 4096];
-    let at = arguments.next;
-    let length = word_at(rt, at, &mut area);
-    let word = between(&area, 0, length);
-    if arguments.ended || !dashed(word) {
-        return no_option(with_file(arguments));
+    let at = reading.next;
+    let Some(word) = word_at(rt, at, &mut area) else {
+        return Ok(Step::End);
+    };
+    reading.next = wrapping_add_usize(at, 1);
+    if reading.ended || !is_dashed(word) {
+        return take_file(reading, at);
     }
-    if same(word, b"--") || same(word, b"--help") {
-        return no_option(with_common(arguments, length));
+    match word {
+        b"--" => reading.ended = true,
+        b"--help" => return Ok(Step::Help),
+        _ => take_option(rt, reading, options, word, at)?,
     }
-    let option = number_of(names, word);
-    if option == 0 {
-        return no_option(wrong(arguments, UNKNOWN, at));
-    }
-    if flags < option {
-        return with_value(rt, arguments, option);
-    }
-    Word {
-        arguments: past(arguments, 1),
-        option,
-        at,
-        value: 0,
-    }
+    Ok(Step::GoOn)
 }
 
 // Whether a word begins with a dash and goes on behind it.
-fn dashed(word: &[u8]) -> bool {
-    if word.len() < 2 {
-        return false;
-    }
-    word[0] == b'-'
+fn is_dashed(word: &[u8]) -> bool {
+    matches!(word, [b'-', _, ..])
 }
 
-// So many words are read.
-fn past(arguments: Arguments, count: usize) -> Arguments {
-    let mut next = arguments;
-    next.next = wrapping_add_usize(arguments.next, count);
-    next
-}
-
-fn no_option(arguments: Arguments) -> Word {
-    Word {
-        arguments,
-        option: 0,
-        at: 0,
-        value: 0,
-    }
-}
-
-// The next word is a file.
-fn with_file(arguments: Arguments) -> Arguments {
-    let at = arguments.next;
-    let mut next = past(arguments, 1);
-    if arguments.configuration == 0 {
-        next.configuration = at;
-        return next;
-    }
-    if arguments.record == 0 {
-        next.record = at;
-        return next;
-    }
-    wrong(arguments, THIRD_FILE, at)
-}
-
-// The next word is one that every program has: the shorter ends the options, the longer asks for help.
-fn with_common(arguments: Arguments, length: usize) -> Arguments {
-    let mut next = past(arguments, 1);
-    if length == 2 {
-        next.ended = true;
+// The word at a place is a file.
+fn take_file<F>(reading: &mut Reading, at: usize) -> Result<Step, Wrong<F>> {
+    if reading.configuration.is_none() {
+        reading.configuration = Some(at);
+    } else if reading.record.is_none() {
+        reading.record = Some(at);
     } else {
-        next.help = true;
+        return wrong_at(Fault::ThirdFile, at);
     }
-    next
+    Ok(Step::GoOn)
 }
 
-// The next word is an option with its value behind it.
-fn with_value(rt: &HostRuntime, arguments: Arguments, option: u64) -> Word {
-    let mut area = [0u8; 4096];
-    let at = arguments.next;
-    let behind = past(arguments, 1);
-    let place = behind.next;
-    let length = word_at(rt, place, &mut area);
-    if length == 0 || dashed(between(&area, 0, length)) {
-        return no_option(wrong(arguments, VALUE_MISSING, at));
+// The word at a place is one of the program's options.
+fn take_option<O: OwnOptions>(
+    rt: &HostRuntime,
+    reading: &mut Reading,
+    options: &mut O,
+    word: &[u8],
+    at: usize,
+) -> Result<(), Wrong<O::Fault>> {
+    if options.set_flag(word) {
+        return Ok(());
     }
-    Word {
-        arguments: past(behind, 1),
-        option,
-        at,
+    let Some(setting) = O::setting_of(word) else {
+        return wrong_at(Fault::UnknownOption, at);
+    };
+    let mut area = [0u8; 4096];
+    let place = reading.next;
+    let value = match word_at(rt, place, &mut area) {
+        Some(value) if !value.is_empty() && !is_dashed(value) => value,
+        _ => return wrong_at(Fault::ValueMissing, at),
+    };
+    reading.next = wrapping_add_usize(place, 1);
+    let places = Places {
+        option: at,
         value: place,
+    };
+    match options.set(setting, value, places) {
+        Ok(()) => Ok(()),
+        Err(fault) => wrong_at(fault, place),
     }
 }
 
-// All words are read: whether two files are named.
-pub fn complete(arguments: Arguments) -> Arguments {
-    if settled(arguments) {
-        return arguments;
+// The number that a value says, if it isn't above a top; else the fault.
+pub fn number_of<F: Drop>(value: &[u8], top: u64, fault: Fault<F>) -> Result<u64, Fault<F>> {
+    match decimal(value, top) {
+        Some(number) => Ok(number),
+        None => Err(fault),
     }
-    if arguments.configuration == 0 {
-        return wrong(arguments, FILES_MISSING, 0);
-    }
-    if arguments.record == 0 {
-        return wrong(arguments, RECORD_MISSING, arguments.configuration);
-    }
-    arguments
 }
 
-// Says what is wrong, and what to do; of the program's own faults, by its list.
-pub fn advise(rt: &HostRuntime, program: &[u8], arguments: Arguments, own: &[u8]) {
-    if OWN <= arguments.fault {
-        let number = wrapping_sub_u64(arguments.fault, 6);
-        name(rt, program, arguments.word, numbered(own, number));
+// Says what is wrong, and what to do.
+pub fn tell<F: Display + Drop>(rt: &HostRuntime, program: &[u8], wrong: Wrong<F>) {
+    let Some(place) = wrong.word else {
+        complain(rt, program, b"", wrong.fault);
         return;
-    }
-    let advice = numbered(
-        b": there is no such option; --help names all\n\
-: its value is missing; --help says which\n\
-: not the number of a line; write digits alone\n\
-: a third file; name a configuration and a record\n\
-: no record behind the configuration; name both\n\
-no files are named; name a configuration and a record, or ask --help\n",
-        arguments.fault,
-    );
-    name(rt, program, arguments.word, advice);
-}
-
-// The word at a place, and what to do about it.
-fn name(rt: &HostRuntime, program: &[u8], word: usize, advice: &[u8]) {
-    if word == 0 {
-        complain(rt, program, b"", advice);
-        return;
-    }
+    };
     let mut area = [0u8; 4096];
-    let length = word_at(rt, word, &mut area);
-    complain(rt, program, between(&area, 0, length), advice);
+    let word = word_at(rt, place, &mut area).unwrap_or(b"");
+    complain(rt, program, word, wrong.fault);
 }

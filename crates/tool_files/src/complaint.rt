@@ -1,14 +1,14 @@
 // What went wrong, in one line on standard error that begins with the program's name.
+use std::fmt::Display;
 use std::io::{Cursor, Write};
 use std::{io, str};
 use text::part::between;
 
 // A word, and what to do about it.
-pub fn complain(rt: &HostRuntime, program: &[u8], word: &[u8], advice: &[u8]) {
+pub fn complain<D: Display + Drop>(rt: &HostRuntime, program: &[u8], word: &[u8], advice: D) {
     name(rt, program);
     say(rt, word);
-    say(rt, advice);
-    say(rt, b"\n");
+    let _ = rt.eprintln(advice);
 }
 
 // What failed just now, and the system's word for it.

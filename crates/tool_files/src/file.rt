@@ -4,7 +4,6 @@ use crate::complaint::complain_of;
 use std::io::{ErrorKind, Read, Seek, SeekFrom};
 use std::num::wrapping_add_usize;
 use std::{fs, io, str};
-use text::part::between;
 
 // An open file and how many octets of it came.
 #[derive(Drop)]
@@ -15,9 +14,8 @@ pub struct File {
 
 // The file that an argument names, and its first piece; none where that failed.
 pub fn begin(rt: &HostRuntime, program: &[u8], argument: usize, area: &mut [u8]) -> Option<File> {
-    let mut path = [0u8; 4096];
-    let length = word_at(rt, argument, &mut path);
-    let path = between(&path, 0, length);
+    let mut octets = [0u8; 4096];
+    let path = word_at(rt, argument, &mut octets).unwrap_or(b"");
     match first(rt, path, area) {
         Ok(file) => Some(file),
         Err(error) => {
@@ -81,52 +79,41 @@ fn more(handle: &mut fs::File, area: &mut [u8], from: usize) -> io::Result<usize
 
 // How many octets a file has; 0 where that isn't known, as of a pipe.
 pub fn size(handle: &mut fs::File) -> u64 {
-    let Ok(at) = handle.stream_position() else {
-        return 0;
-    };
-    let Ok(end) = handle.seek(SeekFrom::End(0)) else {
-        return 0;
-    };
-    let _ = handle.seek(SeekFrom::Start(at));
-    end
+    end_of(handle).unwrap_or(0)
 }
 
-// What was left of a piece, and how many octets came behind it, or why reading failed.
+fn end_of(handle: &mut fs::File) -> io::Result<u64> {
+    let at = handle.stream_position()?;
+    let end = handle.seek(SeekFrom::End(0))?;
+    let _ = handle.seek(SeekFrom::Start(at));
+    Ok(end)
+}
+
+// How many octets were left of a piece, and how many came behind them.
 #[derive(Clone, Copy)]
 pub struct Piece {
-    pub failed: Option<io::Error>,
     pub rest: usize,
     pub count: usize,
 }
 
 // The octets of a piece from a place up to another go to its front, and the next of the file stand behind them.
-pub fn next_piece(handle: &mut fs::File, piece: &mut [u8; 65536], from: usize, to: usize) -> Piece {
+pub fn next_piece(
+    handle: &mut fs::File,
+    piece: &mut [u8; 65536],
+    from: usize,
+    to: usize,
+) -> io::Result<Piece> {
     let rest = move_to_front(piece, from, to);
-    match more(handle, piece, rest) {
-        Ok(count) => Piece {
-            failed: None,
-            rest,
-            count,
-        },
-        Err(error) => Piece {
-            failed: Some(error),
-            rest,
-            count: 0,
-        },
-    }
+    let count = more(handle, piece, rest)?;
+    Ok(Piece { rest, count })
 }
 
 // The octets of a piece from a place up to another, at its front; how many there are.
 fn move_to_front(piece: &mut [u8; 65536], from: usize, to: usize) -> usize {
-    let mut count = 0;
-    let mut at = from;
-    while at < to {
-        if 65536 <= at {
-            break;
-        }
-        piece[count] = piece[at];
-        count += 1;
-        at += 1;
+    let end = if to < 65536 { to } else { 65536 };
+    if end <= from {
+        return 0;
     }
-    count
+    piece.copy_within(from..end, 0);
+    end - from
 }

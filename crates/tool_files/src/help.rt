@@ -1,14 +1,13 @@
 // What `--help` says, on standard output.
 use crate::complaint::complain_of;
-use crate::status::{DONE, FAILED};
+use crate::status::Status;
 
-// Answers the status.
-pub fn write(rt: &HostRuntime, program: &[u8], text: &[u8]) -> u8 {
+pub fn write(rt: &HostRuntime, program: &[u8], text: &[u8]) -> Status {
     match Print::write_all(&rt.stdout(), text) {
-        Ok(()) => DONE,
+        Ok(()) => Status::Done,
         Err(error) => {
             complain_of(rt, program, b"standard output", error);
-            FAILED
+            Status::Failed
         }
     }
 }

@@ -6,6 +6,7 @@ pub mod arguments;
 pub mod complaint;
 pub mod file;
 pub mod help;
+pub mod program;
 pub mod progress;
 pub mod status;
 pub mod target;

@@ -17,28 +17,34 @@ pub struct Progress {
 
 const MILLION: u64 = 1000000;
 
-pub fn begin(rt: &HostRuntime, size: u64) -> Progress {
-    Progress {
-        shown: rt.stderr().is_terminal(),
-        read: 0,
-        size,
-        told: 0,
+impl Progress {
+    pub fn begin(rt: &HostRuntime, size: u64) -> Progress {
+        Progress {
+            shown: rt.stderr().is_terminal(),
+            read: 0,
+            size,
+            told: 0,
+        }
     }
-}
 
-// Octets more were read. The line is written anew for each ten millions, some times a second.
-pub fn on(rt: &HostRuntime, progress: Progress, program: &[u8], octets: usize) -> Progress {
-    let read = wrapping_add_u64(progress.read, octets as u64);
-    let millions = read / MILLION;
-    let told = progress.shown && wrapping_add_u64(progress.told, 10) <= millions;
-    if told {
-        write_line(rt, program, millions, progress.size / MILLION);
+    // Octets more were read. The line is written anew for each ten millions, some times a second.
+    pub fn go_on(&mut self, rt: &HostRuntime, program: &[u8], octets: usize) {
+        self.read = wrapping_add_u64(self.read, octets as u64);
+        let millions = self.read / MILLION;
+        if self.shown && wrapping_add_u64(self.told, 10) <= millions {
+            write_line(rt, program, millions, self.size / MILLION);
+            self.told = millions;
+        }
     }
-    Progress {
-        shown: progress.shown,
-        read,
-        size: progress.size,
-        told: if told { millions } else { progress.told },
+
+    // The line goes, so that another can stand in its place.
+    pub fn clear(&self, rt: &HostRuntime) {
+        if 0 < self.told {
+            say(
+                rt,
+                b"\r                                                                               \r",
+            );
+        }
     }
 }
 
@@ -60,14 +66,4 @@ fn put_size(out: &mut [u8; 80], at: usize, size: u64) -> usize {
         next = put_number(out, behind, size, b" ");
     }
     put(out, next, b"million octets of the record")
-}
-
-// The line goes, so that another can stand in its place.
-pub fn clear(rt: &HostRuntime, progress: Progress) {
-    if 0 < progress.told {
-        say(
-            rt,
-            b"\r                                                                               \r",
-        );
-    }
 }

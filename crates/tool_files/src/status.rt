@@ -2,13 +2,20 @@
 use std::process::ExitCode;
 
 // Every line was run; something is refused; something went wrong.
-pub const DONE: u8 = 0;
-
-pub const REFUSED: u8 = 1;
-
-pub const FAILED: u8 = 2;
+#[derive(Clone, Copy, PartialEq, Eq)]
+pub enum Status {
+    Done,
+    Refused,
+    Failed,
+}
 
 // What `main` ends with, so that whoever runs the program is told.
-pub fn tell(status: u8) -> ExitCode {
-    ExitCode::from(status)
+impl From<Status> for ExitCode {
+    fn from(status: Status) -> ExitCode {
+        ExitCode::from(match status {
+            Status::Done => 0,
+            Status::Refused => 1,
+            Status::Failed => 2,
+        })
+    }
 }

@@ -6,56 +6,72 @@ use std::fs::OpenOptions;
 use std::{fs, io};
 use text::part::{between, same};
 
-// The file that an argument names, empty, to be written front to back or with something put into its place later; none where it can't be written
-// or holds what is read: all of the configuration is given, of the record its first octets and how many it has.
+// How a file is written: front to back, or with something put into its place later.
+#[derive(Clone, Copy, PartialEq, Eq)]
+pub enum Manner {
+    FrontToBack,
+    InPlaces,
+}
+
+// What is read, and may not be written over: all of the configuration, of the record its first octets and how many it has.
+#[derive(Clone, Copy)]
+pub struct Inputs<'a> {
+    pub configuration: &'a [u8],
+    pub piece: &'a [u8],
+    pub size_of_record: u64,
+}
+
+// The file that an argument names, empty; none where it can't be written or holds what is read, which is told.
 pub fn open(
     rt: &HostRuntime,
     program: &[u8],
     argument: usize,
-    straight: bool,
-    configuration: &[u8],
-    piece: &[u8],
-    size_of_record: u64,
+    manner: Manner,
+    inputs: Inputs<'_>,
 ) -> Option<fs::File> {
     let mut area = [0u8; 4096];
-    let length = word_at(rt, argument, &mut area);
-    let path = between(&area, 0, length);
-    if let Ok(new) = create(rt, path) {
-        return Some(new);
-    }
-    let mut handle = match open_old(rt, path, straight) {
-        Ok(old) => old,
+    let path = word_at(rt, argument, &mut area).unwrap_or(b"");
+    match emptied(rt, path, manner, inputs) {
+        Ok(Some(handle)) => Some(handle),
+        Ok(None) => {
+            complain(rt, program, path, ": holds what is read; name another file");
+            None
+        }
         Err(error) => {
             complain_of(rt, program, path, error);
-            return None;
+            None
         }
-    };
+    }
+}
+
+// A file by its name, empty; none where it holds what is read.
+fn emptied(
+    rt: &HostRuntime,
+    path: &[u8],
+    manner: Manner,
+    inputs: Inputs<'_>,
+) -> io::Result<Option<fs::File>> {
+    if let Ok(new) = create(rt, path) {
+        return Ok(Some(new));
+    }
+    let mut handle = open_old(rt, path, manner)?;
     let held = size(&mut handle);
-    let size_of_configuration = configuration.len() as u64;
+    let configuration = inputs.configuration;
     if holds(
         rt,
         &handle,
         path,
         held,
         configuration,
-        size_of_configuration,
-    ) || holds(rt, &handle, path, held, piece, size_of_record)
+        configuration.len() as u64,
+    ) || holds(rt, &handle, path, held, inputs.piece, inputs.size_of_record)
     {
-        complain(
-            rt,
-            program,
-            path,
-            b": holds what is read; name another file",
-        );
-        return None;
+        return Ok(None);
     }
-    match empty(&handle, held) {
-        Ok(()) => Some(handle),
-        Err(error) => {
-            complain_of(rt, program, path, error);
-            None
-        }
+    if 0 < held {
+        handle.set_len(0)?;
     }
+    Ok(Some(handle))
 }
 
 // A file that isn't there yet.
@@ -67,20 +83,12 @@ fn create(rt: &HostRuntime, path: &[u8]) -> io::Result<fs::File> {
 }
 
 // A pipe can be written front to back; what is put into its place later can't be appended.
-fn open_old(rt: &HostRuntime, path: &[u8], straight: bool) -> io::Result<fs::File> {
+fn open_old(rt: &HostRuntime, path: &[u8], manner: Manner) -> io::Result<fs::File> {
     let name = name_of(path)?;
-    if straight {
-        return OpenOptions::new().append(true).open(rt, name);
+    match manner {
+        Manner::FrontToBack => OpenOptions::new().append(true).open(rt, name),
+        Manner::InPlaces => OpenOptions::new().read(true).write(true).open(rt, name),
     }
-    OpenOptions::new().read(true).write(true).open(rt, name)
-}
-
-// A file that holds octets has none any more.
-fn empty(handle: &fs::File, held: u64) -> io::Result<()> {
-    if held == 0 {
-        return Ok(());
-    }
-    handle.set_len(0)
 }
 
 // Whether a file holds an input, of which the first octets are given: it is that file, by whatever
@@ -97,7 +105,7 @@ fn holds(
         return false;
     }
     if held == 0 {
-        return first.len() == 0 && handle.set_len(0).is_ok();
+        return first.is_empty() && handle.set_len(0).is_ok();
     }
     let mut area = [0u8; 65536];
     let _ = read_again(rt, path, &mut area);

@@ -62,12 +62,11 @@ pub fn write<W: Write>(writer: Writer<W>, octets: &[u8]) -> Writer<W> {
 pub fn closed(writer: Writer<fs::File>) -> Writer<fs::File> {
     let mut next = writer;
     next.held = 0;
-    if next.failed.is_some() {
-        return next;
-    }
-    match next.file.sync_all() {
-        Err(error) if error.kind() != ErrorKind::InvalidInput => next.failed = Some(error),
-        _ => {}
+    if next.failed.is_none()
+        && let Err(error) = next.file.sync_all()
+        && error.kind() != ErrorKind::InvalidInput
+    {
+        next.failed = Some(error);
     }
     next
 }

@@ -1,7 +1,36 @@
 // Lines of a text by their number, and the fields of a line.
-use std::num::wrapping_add_u64;
-use text::part::{between, field, line, same};
+ghost use Rattle.std.specs.Prelude.{length};
+ghost use Rattle.std.specs.Iterator.{at_most};
+
+use std::num::{wrapping_add_u64, wrapping_add_usize};
+use text::part::{between, field, line};
 use text_decimals::decimal::decimal;
+
+// The lines that end in a text, one after the other, each without its LF. Octets behind the last LF are no line.
+#[derive(Clone, Copy, Drop)]
+pub struct Lines<'a> {
+    rest: &'a [u8],
+}
+
+pub fn lines_of(text: &[u8]) -> Lines<'_> {
+    Lines { rest: text }
+}
+
+impl<'a> Iterator for Lines<'a> {
+    type Item = &'a [u8];
+
+    ghost remaining = { λ lines. at_most (length lines.rest.now) };
+
+    fn next(&mut self) -> Option<&'a [u8]> {
+        let text = self.rest;
+        let part = line(text, 0);
+        if !part.closed {
+            return None;
+        }
+        self.rest = &text[part.next..];
+        Some(&text[..part.end])
+    }
+}
 
 // A line: its place in a text, and its number.
 #[derive(Clone, Copy)]
@@ -11,48 +40,18 @@ pub struct Entry {
 }
 
 // The line of a number, at a line's place or behind it; the last place where a line begins, if the text ends before.
-pub fn entry_of(lines: &[u8], from: Entry, number: u64) -> Entry {
+pub fn entry_of(text: &[u8], from: Entry, number: u64) -> Entry {
     let mut entry = from;
-    let mut turns = lines.len();
-    while 0 < turns {
-        turns -= 1;
-        let part = line(lines, entry.at);
-        if number <= entry.number || !part.closed {
+    for line in lines_of(between(text, from.at, text.len())) {
+        if number <= entry.number {
             break;
         }
         entry = Entry {
-            at: part.next,
+            at: wrapping_add_usize(entry.at, wrapping_add_usize(line.len(), 1)),
             number: wrapping_add_u64(entry.number, 1),
         };
     }
     entry
-}
-
-// The line of a number, counted from 1.
-pub fn numbered(lines: &[u8], number: u64) -> &[u8] {
-    let entry = entry_of(lines, Entry { at: 0, number: 1 }, number);
-    let at = entry.at;
-    let part = line(lines, at);
-    between(lines, at, part.end)
-}
-
-// The number of the line that is a word, counted from 1; 0 where there is none.
-pub fn number_of(lines: &[u8], word: &[u8]) -> u64 {
-    let mut entry = Entry { at: 0, number: 1 };
-    let mut turns = lines.len();
-    while 0 < turns {
-        turns -= 1;
-        let at = entry.at;
-        let part = line(lines, at);
-        if same(between(lines, at, part.end), word) {
-            return entry.number;
-        }
-        entry = Entry {
-            at: part.next,
-            number: wrapping_add_u64(entry.number, 1),
-        };
-    }
-    0
 }
 
 // Where the third field from a place on begins.
