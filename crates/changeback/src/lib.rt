@@ -5,6 +5,7 @@ ghost use Rattle.plan_words.specs.Words.{plan_of};
 ghost use Rattle.std.specs.Prelude.{◌≡◌};
 ghost use Rattle.replies.specs.Areas.{Leaves, before, after};
 ghost use Rattle.queue_joining.specs.Queue.{held_before, held_after};
+ghost use Rattle.replies.specs.Reply.{number_of};
 ghost use Rattle.changeback.specs.Service as Service;
 
 use area_links::store_link;
@@ -13,11 +14,11 @@ use changeback_service::{comes_as, service_reply, sources_in};
 use constants::NO_LINK;
 use lookup::{adjacent_of, slc_of};
 use queue_joining::queue_management;
-use replies::{Answer, done, plain};
+use replies::{Answer, Refusal, done, refused};
 use route_access::{accesses, report_changes};
 use wire_messages::management::Message;
 
-// The CBD, where one is to be sent: 0, or 8 or 10.
+// The CBD, where one is to be sent; refused where it finds no place or number.
 fn declare(
     plan: &[u16; 1024],
     spans: &mut [u16; 70],
@@ -26,14 +27,14 @@ fn declare(
     arrivals: &mut [u64; 1],
     link: u8,
     from: Sources,
-) -> u8
-    ensures value { result ≡ Service.declare_reply spans.old arrivals.old from }
+) -> Result<(), Refusal>
+    ensures value { number_of result ≡ Service.declare_reply spans.old arrivals.old from }
     ensures arrivals_value { held_after spans.new rings.new rows.new arrivals.new ≡
         Service.declared (plan_of plan) link from (held_before spans.old rings.old rows.old arrivals.old) }
 {
     let own = from.own;
     if NO_LINK <= own {
-        return 0;
+        return Ok(());
     }
     queue_management(
         spans,
@@ -62,14 +63,12 @@ pub fn into_service(
     ensures { Leaves (Service.into_service (plan_of plan) (before links.old marks.now spans.old rings.old rows.old arrivals.old reports.old) link) result
         (after links.new marks.now spans.new rings.new rows.new arrivals.new reports.new) }
 {
-    let reply = service_reply(plan, links, link, reports);
-    if 0 < reply {
-        return plain(reply);
+    if let Err(refusal) = service_reply(plan, links, link, reports) {
+        return refused(refusal);
     }
     let from = sources_in(plan, links, marks, link);
-    let lacking = declare(plan, spans, rings, rows, arrivals, link, from);
-    if 0 < lacking {
-        return plain(lacking);
+    if let Err(refusal) = declare(plan, spans, rings, rows, arrivals, link, from) {
+        return refused(refusal);
     }
     let before = accesses(plan, links, marks);
     store_link(links, link, comes_as(from));

@@ -3,12 +3,14 @@
 
 ghost use Rattle.plan_words.specs.Words.{plan_of};
 ghost use Rattle.std.specs.Prelude.{◌≡◌};
+ghost use Rattle.replies.specs.Reply.{number_of, refusal_of};
 ghost use Rattle.changeback_service.specs.InService as InService;
 
 use area_links::{LinkRecord, load_link, store_link};
 use changeback_pairs::{Sources, sources_of};
 use constants::{LINKS, NO_LINK, OPEN, OUT, WAITING};
 use lookup::is_link;
+use replies::Refusal;
 use reports::short;
 
 // The record of a link that has come into service.
@@ -52,21 +54,27 @@ pub fn sources_in(plan: &[u16; 1024], links: &[u32; 256], marks: &[u32; 512], li
 
 // The reply to a link that comes into service, before its pairs are looked at.
 #[tactic(auto, using(crate::proofs::Replying::no_such_link, crate::proofs::Replying::area_short, crate::proofs::Replying::not_configured, crate::proofs::Replying::not_out, crate::proofs::Replying::can_come))]
-pub fn service_reply(plan: &[u16; 1024], links: &[u32; 256], link: u8, reports: &[u64]) -> u8
-    ensures { result ≡ InService.reply_first (plan_of plan) links.now link reports.now }
+pub fn service_reply(
+    plan: &[u16; 1024],
+    links: &[u32; 256],
+    link: u8,
+    reports: &[u64],
+) -> Result<(), Refusal>
+    ensures value { result ≡ refusal_of (InService.reply_first (plan_of plan) links.now link reports.now) }
+    ensures number { number_of result ≡ InService.reply_first (plan_of plan) links.now link reports.now }
 {
     if LINKS <= link {
-        return 1;
+        return Err(Refusal::OutOfRange);
     }
     if short(reports) {
-        return 1;
+        return Err(Refusal::OutOfRange);
     }
     if !is_link(plan, link) {
-        return 2;
+        return Err(Refusal::NotConfigured);
     }
     let known = load_link(links, link);
     if OUT < known.state {
-        return 5;
+        return Err(Refusal::Unfit);
     }
-    0
+    Ok(())
 }

@@ -4,51 +4,55 @@
 ghost use Rattle.std.specs.Prelude.{◌≡◌, []};
 ghost use Rattle.plan_words.specs.Words.{plan_of};
 ghost use Rattle.replies.specs.Areas.{areas, Leaves};
+ghost use Rattle.replies.specs.Reply.{number_of, refusal_of};
 ghost use Rattle.changeback_waiting.specs.Wait as Wait;
 
 use area_links::{load_link, store_link};
 use changeback_opening::{runs, stopped};
 use constants::{LINKS, NO_LINK};
 use lookup::{is_link, link_named};
-use replies::{Answer, done, plain};
+use replies::{Answer, Refusal, done, refused};
 
 // The reply to an expiry.
 #[tactic(auto, using(crate::proofs::Expiry::past_the_last_link, crate::proofs::Expiry::another_timer, crate::proofs::Expiry::no_such_link, crate::proofs::Expiry::by_running))]
-fn wait_reply(plan: &[u16; 1024], links: &[u32; 256], link: u8, timer: u8) -> u8
-    ensures { result ≡ Wait.reply_of (plan_of plan) links.now link timer }
+fn wait_reply(plan: &[u16; 1024], links: &[u32; 256], link: u8, timer: u8) -> Result<(), Refusal>
+    ensures { number_of result ≡ Wait.reply_of (plan_of plan) links.now link timer }
 {
     if LINKS <= link {
-        return 1;
+        return Err(Refusal::OutOfRange);
     }
     if timer < 3 {
-        return 1;
+        return Err(Refusal::OutOfRange);
     }
     if 4 < timer {
-        return 1;
+        return Err(Refusal::OutOfRange);
     }
     if !is_link(plan, link) {
-        return 2;
+        return Err(Refusal::NotConfigured);
     }
     let known = load_link(links, link);
     if !runs(known, timer) {
-        return 5;
+        return Err(Refusal::Unfit);
     }
-    0
+    Ok(())
 }
 
 // T3 or T4 of a link expires.
-#[tactic(auto, using(replies::proofs::Rows::refused, replies::proofs::Rows::done, crate::proofs::Expiry::leaves_all, crate::proofs::Expiry::stops_one))]
-pub fn expire_wait(plan: &[u16; 1024], links: &mut [u32; 256], link: u8, timer: u8) -> u8
-    ensures value { result ≡ Wait.reply_of (plan_of plan) links.old link timer }
+#[tactic(auto, using(replies::proofs::Numbers::over, replies::proofs::Numbers::none, replies::proofs::Rows::refused, replies::proofs::Rows::done, crate::proofs::Expiry::leaves_all, crate::proofs::Expiry::stops_one))]
+pub fn expire_wait(
+    plan: &[u16; 1024],
+    links: &mut [u32; 256],
+    link: u8,
+    timer: u8,
+) -> Result<(), Refusal>
+    ensures value { result ≡ refusal_of (Wait.reply_of (plan_of plan) links.old link timer) }
+    ensures number { number_of result ≡ Wait.reply_of (plan_of plan) links.old link timer }
     ensures links_after { links.new ≡ Wait.expired (plan_of plan) links.old link timer }
 {
-    let reply = wait_reply(plan, links, link, timer);
-    if 0 < reply {
-        return reply;
-    }
+    wait_reply(plan, links, link, timer)?;
     let known = load_link(links, link);
     store_link(links, link, stopped(known, timer));
-    0
+    Ok(())
 }
 
 // Whether a CBA answers an unanswered CBD.
@@ -87,7 +91,7 @@ pub fn answer_by(
         (areas links.new [] [] [] [] [] []) }
 {
     if !answers(plan, links, point, slc, code) {
-        return plain(11);
+        return refused(Refusal::NamesNothing);
     }
     answer_wait(plan, links, point, slc);
     done(0)

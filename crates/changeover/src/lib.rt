@@ -12,7 +12,7 @@ use changeover_ending::end_service;
 use changeover_failure::{changing, fail_reply, order_of};
 use constants::WAITING;
 use management_making::make;
-use replies::{Answer, done, plain};
+use replies::{Answer, done, refused};
 
 // An open link fails: a COO and T2, or T1.
 #[tactic(auto, unfolding(crate::specs::Fail::open_failed, crate::specs::Fail::timer_of))]
@@ -33,7 +33,7 @@ fn fail_open(
     let order = order_of(plan, links, link);
     let sent = make(plan, links, marks, spans, rings, rows, arrivals, order);
     let known = load_link(links, link);
-    store_link(links, link, changing(known, sent.made));
+    store_link(links, link, changing(known, sent.unwrap_or(false)));
     done(0)
 }
 
@@ -53,9 +53,8 @@ pub fn fail(
     ensures { Leaves (Fail.failed (plan_of plan) (before links.old marks.now spans.old rings.old rows.old arrivals.old reports.old) link) result
         (after links.new marks.now spans.new rings.new rows.new arrivals.new reports.new) }
 {
-    let reply = fail_reply(plan, links, link, reports);
-    if 0 < reply {
-        return plain(reply);
+    if let Err(refusal) = fail_reply(plan, links, link, reports) {
+        return refused(refusal);
     }
     let known = load_link(links, link);
     if known.state == WAITING {

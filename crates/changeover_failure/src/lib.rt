@@ -3,6 +3,7 @@
 
 ghost use Rattle.plan_words.specs.Words.{plan_of};
 ghost use Rattle.std.specs.Prelude.{◌≡◌};
+ghost use Rattle.replies.specs.Reply.{number_of, refusal_of};
 ghost use Rattle.changeover_failure.specs.Failure as Failure;
 ghost use Rattle.changeover_failure.specs.Overdue as Overdue;
 
@@ -10,31 +11,38 @@ use area_links::{LinkRecord, load_link};
 use constants::{CHANGING, LINKS, OPEN, WAITING};
 use lookup::{adjacent_of, is_link, slc_of};
 use management_making::Draft;
+use replies::Refusal;
 use reports::short;
 use wire_messages::management::Message;
 
 // The reply to a link's failure.
-#[tactic(auto, unfolding(crate::specs::Failure::reply_of, replies::specs::Reply::first))]
-pub fn fail_reply(plan: &[u16; 1024], links: &[u32; 256], link: u8, reports: &[u64]) -> u8
-    ensures { result ≡ Failure.reply_of (plan_of plan) links.now link reports.now }
+#[tactic(auto, unfolding(crate::specs::Failure::reply_of, replies::specs::Reply::first, replies::specs::Reply::refusal_of))]
+pub fn fail_reply(
+    plan: &[u16; 1024],
+    links: &[u32; 256],
+    link: u8,
+    reports: &[u64],
+) -> Result<(), Refusal>
+    ensures value { result ≡ refusal_of (Failure.reply_of (plan_of plan) links.now link reports.now) }
+    ensures number { number_of result ≡ Failure.reply_of (plan_of plan) links.now link reports.now }
 {
     if LINKS <= link {
-        return 1;
+        return Err(Refusal::OutOfRange);
     }
     if short(reports) {
-        return 1;
+        return Err(Refusal::OutOfRange);
     }
     if !is_link(plan, link) {
-        return 2;
+        return Err(Refusal::NotConfigured);
     }
     let known = load_link(links, link);
     if known.state == OPEN {
-        return 0;
+        return Ok(());
     }
     if known.state == WAITING {
-        return 0;
+        return Ok(());
     }
-    5
+    Err(Refusal::Unfit)
 }
 
 // The COO of a link.
@@ -66,34 +74,35 @@ pub fn changing(known: LinkRecord, told: bool) -> LinkRecord
 }
 
 // The reply to the expiry of T1 or T2.
-#[tactic(auto, unfolding(crate::specs::Overdue::reply_of, replies::specs::Reply::first))]
+#[tactic(auto, unfolding(crate::specs::Overdue::reply_of, replies::specs::Reply::first, replies::specs::Reply::refusal_of))]
 pub fn expire_reply(
     plan: &[u16; 1024],
     links: &[u32; 256],
     link: u8,
     timer: u8,
     reports: &[u64],
-) -> u8
-    ensures { result ≡ Overdue.reply_of (plan_of plan) links.now link timer reports.now }
+) -> Result<(), Refusal>
+    ensures value { result ≡ refusal_of (Overdue.reply_of (plan_of plan) links.now link timer reports.now) }
+    ensures number { number_of result ≡ Overdue.reply_of (plan_of plan) links.now link timer reports.now }
 {
     if LINKS <= link {
-        return 1;
+        return Err(Refusal::OutOfRange);
     }
     if timer < 1 {
-        return 1;
+        return Err(Refusal::OutOfRange);
     }
     if 2 < timer {
-        return 1;
+        return Err(Refusal::OutOfRange);
     }
     if short(reports) {
-        return 1;
+        return Err(Refusal::OutOfRange);
     }
     if !is_link(plan, link) {
-        return 2;
+        return Err(Refusal::NotConfigured);
     }
     let known = load_link(links, link);
     if known.timer != timer {
-        return 5;
+        return Err(Refusal::Unfit);
     }
-    0
+    Ok(())
 }

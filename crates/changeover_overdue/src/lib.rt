@@ -9,7 +9,7 @@ ghost use Rattle.changeover_overdue.specs.Expire as Expire;
 use changeover_cuts::cut_none;
 use changeover_ending::end_service;
 use changeover_failure::expire_reply;
-use replies::{Answer, done, plain};
+use replies::{Answer, done, refused};
 
 // T1 or T2 of a link expires.
 #[tactic(auto, unfolding(crate::specs::Expire::expired, changeover_ending::specs::End::out_of_service))]
@@ -27,9 +27,8 @@ pub fn expire(
     ensures { Leaves (Expire.expired (plan_of plan) (before_unnumbered links.old marks.now spans.old rings.old rows.now reports.old) link timer) result
         (after_unnumbered links.new marks.now spans.new rings.new rows.now reports.new) }
 {
-    let reply = expire_reply(plan, links, link, timer, reports);
-    if 0 < reply {
-        return plain(reply);
+    if let Err(refusal) = expire_reply(plan, links, link, timer, reports) {
+        return refused(refusal);
     }
     done(end_service(
         plan,

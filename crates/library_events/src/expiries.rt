@@ -9,7 +9,7 @@ ghost use Rattle.rerouting_expiry.specs.Expiry as Expiry;
 
 use changeback_waiting::expire_wait;
 use changeover_overdue::expire;
-use replies::Answer;
+use replies::{Answer, number};
 use rerouting::timer::{expire_t6, expire_t10};
 use rerouting_expiry::expire_t8;
 
@@ -43,7 +43,7 @@ pub extern "C" fn transfer_point_expire_wait_lent(
     ensures value { result ≡ Wait.reply_of (plan_of plan) links.old link timer }
     ensures links_after { links.new ≡ Wait.expired (plan_of plan) links.old link timer }
 {
-    expire_wait(plan, links, link, timer)
+    number(expire_wait(plan, links, link, timer))
 }
 
 // T6 of a destination expires.
@@ -74,7 +74,7 @@ pub extern "C" fn transfer_point_expire_t8_lent(
     ensures value { result ≡ Expiry.reply_of (plan_of plan) marks.old x 5 }
     ensures marks_after { marks.new ≡ Expiry.expired_t8 (plan_of plan) marks.old x }
 {
-    expire_t8(plan, marks, x)
+    number(expire_t8(plan, marks, x))
 }
 
 // T10 of a route expires.

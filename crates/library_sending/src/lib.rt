@@ -8,7 +8,7 @@ ghost use Rattle.queue_heads.specs.Head.{queues_before, queues_after};
 ghost use Rattle.acknowledging.specs.Acknowledge as Acknowledge;
 
 use acknowledging::acknowledge;
-use replies::Answer;
+use replies::{Answer, number};
 use sending::send;
 
 // Level 2 asks for a link's next message.
@@ -44,5 +44,5 @@ pub extern "C" fn transfer_point_acknowledge_lent(
     ensures links_value { links.new ≡ Acknowledge.links_after (plan_of plan) links.old link b }
     ensures rings_value { queues_after spans.new rings.new ≡ Acknowledge.queues_after (plan_of plan) links.old (queues_before spans.old rings.old) link b }
 {
-    acknowledge(plan, links, spans, rings, link, b)
+    number(acknowledge(plan, links, spans, rings, link, b))
 }

@@ -1,14 +1,15 @@
 -- "management messages the node makes use open links only, by the same rule for their DPC, with the SLC as SLS (0 for TFP, TFA,
 -- RST). With no such path the message isn't made." (R84, R85, R86, R87, R88)
-use Rattle.std.specs.Prelude.{ℕ, Bool, cond, ◌&&◌, List, eqb, ltb}
+use Rattle.std.specs.Prelude.{ℕ, Bool, cond, ◌&&◌, List, eqb, ltb, Result}
 use Rattle.plan.specs.declared.data.Plan.{Plan}
+use Rattle.replies.specs.declared.Refusal.{Refusal}
+use Rattle.replies.specs.Reply.{decided}
 use Rattle.replies.specs.Areas.{Areas, areas}
 use Rattle.route_choice.specs.Which.{none}
 use Rattle.route_ways.specs.Way.{for_management, way_of}
 use Rattle.queue_joining.specs.Queue.{management_reply, with_management}
 pub use Rattle.queue_joining.specs.Queue.{Held, held, held_before, held_after}
 use Rattle.management_making.specs.declared.Draft.{Draft}
-use Rattle.management_making.specs.declared.Made.{Made}
 
 -- the path: an open link by the rule, and never the one link
 unfoldable pub path_of : Plan → List ℕ → List ℕ → Draft → ℕ
@@ -24,9 +25,10 @@ reply_of plan links marks spans arrivals draft = cond (has_path plan links marks
 unfoldable pub is_made : Plan → List ℕ → List ℕ → List ℕ → List ℕ → Draft → Bool
 is_made plan links marks spans arrivals draft = has_path plan links marks draft && eqb (management_reply spans arrivals) 0
 
-abbrev pub outcome : Plan → List ℕ → List ℕ → List ℕ → List ℕ → Draft → Made
+-- whether it was made, where that isn't refused
+abbrev pub outcome : Plan → List ℕ → List ℕ → List ℕ → List ℕ → Draft → Result Bool Refusal
 outcome plan links marks spans arrivals draft =
-    record { reply = reply_of plan links marks spans arrivals draft; made = is_made plan links marks spans arrivals draft }
+    decided (reply_of plan links marks spans arrivals draft) (is_made plan links marks spans arrivals draft)
 
 -- what is held then: the message stands at the end of its path's queue
 unfoldable pub made : Plan → List ℕ → List ℕ → Draft → Held → Held

@@ -10,11 +10,12 @@ use borrow.Author.Tests.{eq-eqb, ne_eqb}
 use borrow.Table.Steps.{cases}
 use Rattle.plan.specs.declared.data.Plan.{Plan}
 use Rattle.replies.specs.declared.Answer.{Answer}
-use Rattle.replies.specs.Reply.{plain, done}
+use Rattle.replies.specs.Reply.{plain, done, number_of}
 use Rattle.replies.specs.Areas.{Areas, areas, Outcome, outcome, refused, judged, Leaves}
 use Rattle.replies.proofs.Judging.{whole}
 use Rattle.replies.proofs.Leaving.{leaves}
-use Rattle.management_making.specs.declared.Made.{Made}
+use Rattle.std.specs.Prelude.{Result}
+use Rattle.replies.specs.declared.Refusal.{Refusal}
 use Rattle.management_making.specs.Make.{Held, held_in, with_held, with_made, makes_reply}
 use Rattle.management_making.proofs.Making.{MakeLeaves, refused_kept}
 use Rattle.changeover_ending.specs.End.{out_of_service}
@@ -41,13 +42,13 @@ module _ (plan : Plan) (step : Step) (a : Areas) where
   no_answer e = leaves _ (plain 0) a (answers_by false e)
 
   -- and with one
-  pub answer_made : step.answers ≡ true → (given : Made) (spans rings rows arrivals : List ℕ)
+  pub answer_made : step.answers ≡ true → (given : Result Bool Refusal) (spans rings rows arrivals : List ℕ)
       → MakeLeaves plan a.links a.marks step.draft a.spans a.rings a.rows a.arrivals given spans rings rows arrivals
-      → AnswerLeaves given.reply spans rings rows arrivals
-  answer_made e given spans rings rows arrivals left =
-      leaves _ (plain given.reply) (areas a.links a.marks spans rings rows arrivals a.reports)
-      (ap (λ (g : Made). outcome (plain g.reply) (areas a.links a.marks spans rings rows arrivals a.reports)) left.0
-      ∙ ap (λ (h : Held). outcome (plain (makes_reply plan step.draft a)) (with_held a h)) left.1
+      → (told : Result Unit Refusal) → number_of told ≡ number_of given → AnswerLeaves (number_of told) spans rings rows arrivals
+  answer_made e given spans rings rows arrivals left told same =
+      leaves _ (plain (number_of told)) (areas a.links a.marks spans rings rows arrivals a.reports)
+      (ap (λ (n : ℕ). outcome (plain n) (areas a.links a.marks spans rings rows arrivals a.reports)) (same ∙ left.1)
+      ∙ ap (λ (h : Held). outcome (plain (makes_reply plan step.draft a)) (with_held a h)) left.2
       ∙ answers_by true e)
 
   -- a reply that isn't 0 means that nothing was made

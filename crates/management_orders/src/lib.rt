@@ -4,15 +4,15 @@
 ghost use Rattle.plan_words.specs.Words.{plan_of};
 ghost use Rattle.std.specs.Prelude.{◌≡◌};
 ghost use Rattle.replies.specs.Areas.{Leaves, before, after};
-ghost use Rattle.replies.specs.Reply.{plain};
+ghost use Rattle.replies.specs.Reply.{plain, number_of};
 ghost use Rattle.management_orders.specs.Carry as Carry;
 
 use changeover_ending::end_service;
 use management_making::make;
 use management_steps::Step;
-use replies::{Answer, done, plain};
+use replies::{Answer, Refusal, done, refused};
 
-// The answer of a step, if it has one: 0, or 8 or 10 where it finds no place or number.
+// The answer of a step, if it has one; refused where it finds no place or number.
 fn give_answer(
     plan: &[u16; 1024],
     links: &[u32; 256],
@@ -23,16 +23,16 @@ fn give_answer(
     arrivals: &mut [u64; 1],
     step: Step,
     reports: &[u64],
-) -> u8
-    ensures { Leaves (Carry.answered (plan_of plan) step (before links.now marks.now spans.old rings.old rows.old arrivals.old reports.now)) (plain result)
+) -> Result<(), Refusal>
+    ensures { Leaves (Carry.answered (plan_of plan) step (before links.now marks.now spans.old rings.old rows.old arrivals.old reports.now)) (plain (number_of result))
         (after links.now marks.now spans.new rings.new rows.new arrivals.new reports.now) }
 {
     if !step.answers {
-        return 0;
+        return Ok(());
     }
     let draft = step.draft;
-    let given = make(plan, links, marks, spans, rings, rows, arrivals, draft);
-    given.reply
+    make(plan, links, marks, spans, rings, rows, arrivals, draft)?;
+    Ok(())
 }
 
 // The step of a message that came over a link.
@@ -51,13 +51,15 @@ pub fn carry_out(
         (after links.new marks.now spans.new rings.new rows.new arrivals.new reports.new) }
 {
     if 0 < step.reply {
-        return plain(step.reply);
+        return Answer {
+            reply: step.reply,
+            ..done(0)
+        };
     }
-    let lacking = give_answer(
+    if let Err(refusal) = give_answer(
         plan, links, marks, spans, rings, rows, arrivals, step, reports,
-    );
-    if 0 < lacking {
-        return plain(lacking);
+    ) {
+        return refused(refusal);
     }
     if !step.ends {
         return done(0);

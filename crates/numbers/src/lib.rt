@@ -26,13 +26,7 @@ pub fn left_sent(known: LinkRecord, b: u8) -> u8
 pub fn is_taken(reply: u8) -> bool
     ensures { result ≡ Numbers.is_taken reply }
 {
-    if reply == 7 {
-        return false;
-    }
-    if reply == 8 {
-        return false;
-    }
-    reply != 10
+    !matches!(reply, 7 | 8 | 10)
 }
 
 // A message from a link is taken: the link's last received number moves on.

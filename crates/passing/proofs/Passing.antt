@@ -4,6 +4,10 @@ use mathlib.Core.Path.{◌≡◌, sym, ap, subst, ◌∙◌}
 use mathlib.Core.Bool.{Bool, true, false, cond}
 use mathlib.Core.List.{List}
 use Prim.Native.Nat.{ℕ, ◌≤◌, ◌<◌}
+use native.Mathlib.Omega.{arith}
+use lib.Dec.{eqb}
+use borrow.Author.Tests.{eqb-true, eqb-false}
+use borrow.Table.Steps.{cases}
 use lib.ListN.{length}
 use Rattle.plan.specs.declared.data.Plan.{Plan}
 use Rattle.wire.specs.declared.header.Label.{Label}
@@ -66,3 +70,10 @@ module _ (plan : Plan) (arriving : ℕ) (label : Label) (a : Areas) (octets mess
           ∙ (by_way false so.has_way).0),
       so.writes ∙ (by_way false so.has_way).1,
     )
+
+    -- so it is answered by what it finds
+    pub passed_by : (answer : Answer) → answer ≡ plain reply → PassLeaves answer after octets'
+    passed_by answer says =
+        cases (eqb reply 0)
+        (λ e. let nothing = eqb-true reply 0 e in passed_on (omega (arith, nothing)) answer (says ∙ ap plain nothing))
+        (λ e. passed_lacking (omega (arith, eqb-false reply 0 e)) answer says)

@@ -10,7 +10,7 @@ use constants::NO_LINK;
 use management_making::make;
 use passing_passage::{prohibited_to, ring_of, start_t8, tells};
 use queue_joining::queue_user;
-use replies::{Answer, done, plain};
+use replies::{Answer, Refusal, plain, refused};
 use route_ways::{directed, for_users};
 use wire::header::Label;
 
@@ -32,17 +32,17 @@ fn not_reached(
 {
     let due = tells(plan, marks, x);
     if !due {
-        return plain(9);
+        return refused(Refusal::Inaccessible);
     }
     let told = prohibited_to(plan, arriving, x);
-    let sent = make(plan, links, marks, spans, rings, rows, arrivals, told);
-    if 0 < sent.reply {
-        return plain(sent.reply);
-    }
-    if sent.made {
+    let made = match make(plan, links, marks, spans, rings, rows, arrivals, told) {
+        Ok(made) => made,
+        Err(refusal) => return refused(refusal),
+    };
+    if made {
         start_t8(plan, marks, x);
     }
-    plain(9)
+    refused(Refusal::Inaccessible)
 }
 
 // A message for another point that came over a link.
@@ -72,11 +72,7 @@ pub fn pass_on(
         );
     }
     let ring = ring_of(marks, to);
-    let reply = queue_user(
+    plain(queue_user(
         spans, rings, rows, octets, arrivals, ring, label.dpc, label.sls, message,
-    );
-    if 0 < reply {
-        return plain(reply);
-    }
-    done(0)
+    ))
 }

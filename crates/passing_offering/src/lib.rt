@@ -11,7 +11,7 @@ use discrimination::{Came, from_host};
 use passing_passage::ring_of;
 use plan_words::read::{code, given};
 use queue_joining::queue_user;
-use replies::{Answer, plain};
+use replies::{Answer, Refusal, plain, refused};
 use route_ways::{directed, for_users};
 use wire::header::Label;
 
@@ -34,11 +34,11 @@ fn offer(
         Host.octets_offered (plan_of plan) label (before_unreported links.now marks.now spans.old rings.old rows.old arrivals.old) octets.old message.now }
 {
     if label.dpc == code(plan) {
-        return plain(9);
+        return refused(Refusal::Inaccessible);
     }
     let to = directed(plan, links, marks, for_users(), label.dpc, label.sls);
     if NO_LINK <= to.link {
-        return plain(9);
+        return refused(Refusal::Inaccessible);
     }
     let ring = ring_of(marks, to);
     plain(queue_user(
@@ -64,15 +64,15 @@ pub fn send_host(
         Host.octets_sent (plan_of plan) message.now (before_unreported links.now marks.now spans.old rings.old rows.old arrivals.old) octets.old }
 {
     if !given(plan) {
-        return plain(2);
+        return refused(Refusal::NotConfigured);
     }
     match from_host(plan, message) {
         Came::Passed(label) => offer(
             plan, links, marks, spans, rings, rows, octets, arrivals, label, message,
         ),
-        Came::Foreign => plain(4),
-        Came::Malformed => plain(3),
-        Came::Delivered => plain(3),
-        Came::Managed(_) => plain(3),
+        Came::Foreign => refused(Refusal::Foreign),
+        Came::Malformed => refused(Refusal::Malformed),
+        Came::Delivered => refused(Refusal::Malformed),
+        Came::Managed(_) => refused(Refusal::Malformed),
     }
 }

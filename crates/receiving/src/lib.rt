@@ -12,18 +12,15 @@ use managing::manage;
 use numbers::{is_taken, take_message};
 use passing::pass_on;
 use receiving_acceptance::receive_reply;
-use replies::{Answer, plain};
+use replies::{Answer, Refusal, done, refused};
 
 // The message is delivered.
 fn delivery() -> Answer
     ensures { result ≡ Receive.delivery }
 {
     Answer {
-        reply: 0,
-        fsn: 0,
-        octets: 0,
-        reports: 0,
         delivers: true,
+        ..done(0)
     }
 }
 
@@ -50,8 +47,8 @@ fn receive_by(
         Receive.octets_by (plan_of plan) (from_link (plan_of plan) message.now) (before links.old marks.old spans.old rings.old rows.old arrivals.old reports.old) octets.old message.now }
 {
     match from_link(plan, message) {
-        Came::Malformed => plain(3),
-        Came::Foreign => plain(4),
+        Came::Malformed => refused(Refusal::Malformed),
+        Came::Foreign => refused(Refusal::Foreign),
         Came::Delivered => delivery(),
         Came::Managed(order) => manage(
             plan, links, marks, spans, rings, rows, arrivals, link, fsn, order, reports,
@@ -82,9 +79,8 @@ pub fn receive(
     ensures octets_value { octets.new ≡
         Receive.octets_received (plan_of plan) link fsn message.now (before links.old marks.old spans.old rings.old rows.old arrivals.old reports.old) octets.old }
 {
-    let reply = receive_reply(plan, links, link, fsn, reports);
-    if 0 < reply {
-        return plain(reply);
+    if let Err(refusal) = receive_reply(plan, links, link, fsn, reports) {
+        return refused(refusal);
     }
     let answer = receive_by(
         plan, links, marks, spans, rings, rows, octets, arrivals, link, fsn, message, reports,

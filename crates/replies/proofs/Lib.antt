@@ -1,3 +1,4 @@
 pub mod Leaving
 pub mod Rows
 pub mod Judging
+pub mod Numbers

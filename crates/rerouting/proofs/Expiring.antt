@@ -12,14 +12,15 @@ use Rattle.plan.specs.declared.data.Plan.{Plan}
 use Rattle.plan.specs.Find.{place_of}
 use Rattle.area_flags.specs.Flags.{with_flag}
 use Rattle.replies.specs.declared.Answer.{Answer}
-use Rattle.replies.specs.Reply.{first, plain, done}
+use Rattle.replies.specs.Reply.{first, plain, done, number_of}
 use Rattle.replies.specs.Areas.{Areas, areas, Outcome, outcome, judged, Leaves}
 use Rattle.replies.proofs.Judging.{is_refused, is_done}
 use Rattle.replies.proofs.Leaving.{leaves}
 use Rattle.reports.specs.Report.{short}
 use Rattle.queue_retiring.specs.Leave.{State, state}
 use Rattle.management_making.specs.declared.Draft.{Draft}
-use Rattle.management_making.specs.declared.Made.{Made}
+use Rattle.std.specs.Prelude.{Result}
+use Rattle.replies.specs.declared.Refusal.{Refusal}
 use Rattle.management_making.specs.Make.{Held, held_in, with_held, with_made, makes_reply}
 use Rattle.management_making.proofs.Making.{MakeLeaves, refused_kept}
 use Rattle.rerouting_releasing.specs.Release.{released}
@@ -91,16 +92,16 @@ module _ (plan : Plan) (a : Areas) (x set reply : ℕ) (is : reply ≡ reply_t10
   unfolding expired_t10
   t10_refused h answer r = leaves_all reply (reply_t10 plan a.marks x set) is _ a h answer r
 
-  pub t10_sends : reply ≤ 0 → (draft : Draft) → draft ≡ test_of plan x set → (sent : Made) (spans rings rows arrivals : List ℕ)
+  pub t10_sends : reply ≤ 0 → (draft : Draft) → draft ≡ test_of plan x set → (sent : Result Bool Refusal) (spans rings rows arrivals : List ℕ)
       → MakeLeaves plan a.links a.marks draft a.spans a.rings a.rows a.arrivals sent spans rings rows arrivals
-      → (answer : Answer) → answer ≡ plain sent.reply
+      → (answer : Answer) → answer ≡ plain (number_of sent)
       → Leaves (expired_t10 plan a x set) answer (areas a.links a.marks spans rings rows arrivals a.reports)
   unfolding expired_t10
   t10_sends h draft drawn sent spans rings rows arrivals left answer r =
       leaves (expired_t10 plan a x set) answer (areas a.links a.marks spans rings rows arrivals a.reports)
       (ap (λ (n : Answer). outcome n (areas a.links a.marks spans rings rows arrivals a.reports))
-      (r ∙ ap (λ (s : Made). plain s.reply) left.0)
-      ∙ ap (λ (n : Held). outcome (plain (makes_reply plan draft a)) (with_held a n)) left.1
+      (r ∙ ap plain left.1)
+      ∙ ap (λ (n : Held). outcome (plain (makes_reply plan draft a)) (with_held a n)) left.2
       ∙ ap (λ (d : Draft). outcome (plain (makes_reply plan d a)) (with_made plan d a)) drawn
       ∙ makes plan (test_of plan x set) a
       ∙ is_done reply (reply_t10 plan a.marks x set) is _ a h)

@@ -8,7 +8,7 @@ use area_flags::set_flag;
 use constants::T6;
 use management_making::make;
 use plan_words::find::place_of;
-use replies::{Answer, done, plain};
+use replies::{Answer, Refusal, done, refused};
 use reports::short;
 use rerouting_expiry::{t10_reply, test_of, timer_reply};
 use rerouting_releasing::release;
@@ -28,11 +28,10 @@ pub fn expire_t6(
         (after_unnumbered links.now marks.new spans.new rings.new rows.now reports.new) }
 {
     if short(reports) {
-        return plain(1);
+        return refused(Refusal::OutOfRange);
     }
-    let reply = timer_reply(plan, marks, x, T6);
-    if 0 < reply {
-        return plain(reply);
+    if let Err(refusal) = timer_reply(plan, marks, x, T6) {
+        return refused(refusal);
     }
     set_flag(marks, place_of(plan, x), T6, false);
     done(release(plan, links, marks, spans, rings, rows, x, reports, 0))
@@ -53,11 +52,12 @@ pub fn expire_t10(
     ensures { Leaves (Timer.expired_t10 (plan_of plan) (before_unreported links.now marks.now spans.old rings.old rows.old arrivals.old) x set) result
         (after_unreported links.now marks.now spans.new rings.new rows.new arrivals.new) }
 {
-    let reply = t10_reply(plan, marks, x, set);
-    if 0 < reply {
-        return plain(reply);
+    if let Err(refusal) = t10_reply(plan, marks, x, set) {
+        return refused(refusal);
     }
     let test = test_of(plan, x, set);
-    let sent = make(plan, links, marks, spans, rings, rows, arrivals, test);
-    plain(sent.reply)
+    if let Err(refusal) = make(plan, links, marks, spans, rings, rows, arrivals, test) {
+        return refused(refusal);
+    }
+    done(0)
 }

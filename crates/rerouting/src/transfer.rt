@@ -4,7 +4,7 @@ ghost use Rattle.std.specs.Prelude.{◌≡◌};
 ghost use Rattle.replies.specs.Areas.{Leaves, before, after};
 ghost use Rattle.rerouting.specs.Transfer as Transfer;
 
-use replies::{Answer, done, plain};
+use replies::{Answer, Refusal, done, refused};
 use rerouting_marking::{counts, mark};
 use route_access::{accesses, report_changes};
 
@@ -26,7 +26,7 @@ pub fn transfer(
         (after links.now marks.new spans.now rings.now rows.now arrivals.now reports.new) }
 {
     if !counts(plan, marks, point, x, prohibits) {
-        return plain(11);
+        return refused(Refusal::NamesNothing);
     }
     let before = accesses(plan, links, marks);
     mark(plan, links, marks, point, x, prohibits);

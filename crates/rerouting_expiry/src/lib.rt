@@ -3,6 +3,7 @@
 
 ghost use Rattle.plan_words.specs.Words.{plan_of};
 ghost use Rattle.std.specs.Prelude.{◌≡◌};
+ghost use Rattle.replies.specs.Reply.{number_of, refusal_of};
 ghost use Rattle.rerouting_expiry.specs.Expiry as Expiry;
 
 use area_flags::{flag, set_flag};
@@ -11,6 +12,7 @@ use lookup::{is_set, rank_by};
 use management_making::Draft;
 use plan_words::find::{find, place_of};
 use plan_words::read::{given, set_adjacent};
+use replies::Refusal;
 use wire_messages::management::Message;
 
 // Whether a destination is configured.
@@ -22,62 +24,67 @@ pub fn is_destination(plan: &[u16; 1024], x: u16) -> bool
 }
 
 // The reply to the expiry of a destination's timer, by the word of its flag.
-#[tactic(auto, unfolding(crate::specs::Expiry::reply_of, replies::specs::Reply::first))]
-pub fn timer_reply(plan: &[u16; 1024], marks: &[u32; 512], x: u16, timer: usize) -> u8
-    ensures { result ≡ Expiry.reply_of (plan_of plan) marks.now x timer }
+#[tactic(auto, unfolding(crate::specs::Expiry::reply_of, replies::specs::Reply::first, replies::specs::Reply::refusal_of))]
+pub fn timer_reply(
+    plan: &[u16; 1024],
+    marks: &[u32; 512],
+    x: u16,
+    timer: usize,
+) -> Result<(), Refusal>
+    ensures value { result ≡ refusal_of (Expiry.reply_of (plan_of plan) marks.now x timer) }
+    ensures number { number_of result ≡ Expiry.reply_of (plan_of plan) marks.now x timer }
 {
     if 16384 <= x {
-        return 1;
+        return Err(Refusal::OutOfRange);
     }
     if !is_destination(plan, x) {
-        return 2;
+        return Err(Refusal::NotConfigured);
     }
     if !flag(marks, place_of(plan, x), timer) {
-        return 5;
+        return Err(Refusal::Unfit);
     }
-    0
+    Ok(())
 }
 
 // T8 of a destination expires.
-#[tactic(auto, using(replies::proofs::Rows::refused, replies::proofs::Rows::done), unfolding(crate::specs::Expiry::expired_t8))]
-pub fn expire_t8(plan: &[u16; 1024], marks: &mut [u32; 512], x: u16) -> u8
-    ensures value { result ≡ Expiry.reply_of (plan_of plan) marks.old x 5 }
+#[tactic(auto, using(replies::proofs::Numbers::over, replies::proofs::Numbers::none, replies::proofs::Rows::refused, replies::proofs::Rows::done), unfolding(crate::specs::Expiry::expired_t8))]
+pub fn expire_t8(plan: &[u16; 1024], marks: &mut [u32; 512], x: u16) -> Result<(), Refusal>
+    ensures value { result ≡ refusal_of (Expiry.reply_of (plan_of plan) marks.old x 5) }
+    ensures number { number_of result ≡ Expiry.reply_of (plan_of plan) marks.old x 5 }
     ensures marks_after { marks.new ≡ Expiry.expired_t8 (plan_of plan) marks.old x }
 {
-    let reply = timer_reply(plan, marks, x, T8);
-    if 0 < reply {
-        return reply;
-    }
+    timer_reply(plan, marks, x, T8)?;
     set_flag(marks, place_of(plan, x), T8, false);
-    0
+    Ok(())
 }
 
 // The reply to T10's expiry before its RST is made.
-#[tactic(auto, unfolding(crate::specs::Expiry::reply_t10, replies::specs::Reply::first))]
-pub fn t10_reply(plan: &[u16; 1024], marks: &[u32; 512], x: u16, set: u8) -> u8
-    ensures { result ≡ Expiry.reply_t10 (plan_of plan) marks.now x set }
+#[tactic(auto, unfolding(crate::specs::Expiry::reply_t10, replies::specs::Reply::first, replies::specs::Reply::refusal_of))]
+pub fn t10_reply(plan: &[u16; 1024], marks: &[u32; 512], x: u16, set: u8) -> Result<(), Refusal>
+    ensures value { result ≡ refusal_of (Expiry.reply_t10 (plan_of plan) marks.now x set) }
+    ensures number { number_of result ≡ Expiry.reply_t10 (plan_of plan) marks.now x set }
 {
     if 16384 <= x {
-        return 1;
+        return Err(Refusal::OutOfRange);
     }
     if 8 <= set {
-        return 1;
+        return Err(Refusal::OutOfRange);
     }
     if !is_destination(plan, x) {
-        return 2;
+        return Err(Refusal::NotConfigured);
     }
     if !is_set(plan, set) {
-        return 2;
+        return Err(Refusal::NotConfigured);
     }
     let place = place_of(plan, x);
     let rank = rank_by(plan, place, set);
     if 4 <= rank {
-        return 5;
+        return Err(Refusal::Unfit);
     }
     if !flag(marks, place, rank) {
-        return 5;
+        return Err(Refusal::Unfit);
     }
-    0
+    Ok(())
 }
 
 // The RST about X to the adjacent point of a set.

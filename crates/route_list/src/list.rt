@@ -6,7 +6,7 @@ ghost use Rattle.route_list.specs.RouteList as RouteList;
 
 use constants::NO_LINK;
 use plan_words::read::{count, destination_code, given};
-use replies::{Answer, plain};
+use replies::{Answer, Refusal, refused};
 use route_choice::choose;
 use route_serving::Need;
 use text::put::put;
@@ -26,10 +26,10 @@ pub fn route_list(
         RouteList.laid out.old 0 (RouteList.list_written out.old links.now marks.now (plan_of plan)) }
 {
     if out.len() < 4096 {
-        return plain(1);
+        return refused(Refusal::OutOfRange);
     }
     if !given(plan) {
-        return plain(2);
+        return refused(Refusal::NotConfigured);
     }
     let start = put_header(out);
     let octets = put_lines(plan, links, marks, out, start);

@@ -2,10 +2,12 @@
 #![tactic(auto)]
 
 ghost use Rattle.plan_words.specs.Words.{plan_of};
-ghost use Rattle.std.specs.Prelude.{◌≡◌, length};
+ghost use Rattle.std.specs.Prelude.{◌≡◌, length, IfOk};
+ghost use Rattle.replies.specs.Reply.{number_of};
+ghost use Rattle.area_links.specs.LinkRecords.{record_at};
 ghost use Rattle.sending.specs.Send as Send;
 
-use area_links::load_link;
+use area_links::{LinkRecord, load_link};
 use area_numbers::store_sent;
 use area_slots::{Slot, load_slot};
 use constants::{LINKS, OPEN};
@@ -15,42 +17,43 @@ use numbers::next_number;
 use plan_words::read::{code, ni};
 use queue_rings::ring::{at, count};
 use queue_slots::message::copy_octets;
-use replies::{Answer, plain};
+use replies::{Answer, Refusal, done, refused};
 use wire::header::Label;
 use wire_messages::management::listed;
 use wire_writing::write_message;
 
-// The reply.
+// The record of the link, where the send isn't refused.
 #[tactic(auto, unfolding(crate::specs::Send::reply_of, replies::specs::Reply::first))]
-fn send_reply(
+fn sending_link(
     plan: &[u16; 1024],
     links: &[u32; 256],
     spans: &[u16; 70],
     link: u8,
     room: usize,
-) -> u8
-    ensures { result ≡ Send.reply_of (plan_of plan) links.now spans.now link room }
+) -> Result<LinkRecord, Refusal>
+    ensures number { number_of result ≡ Send.reply_of (plan_of plan) links.now spans.now link room }
+    ensures known { IfOk result (λ known. known ≡ record_at links.now link) }
 {
     if LINKS <= link {
-        return 1;
+        return Err(Refusal::OutOfRange);
     }
     if room < 273 {
-        return 1;
+        return Err(Refusal::OutOfRange);
     }
     if !is_link(plan, link) {
-        return 2;
+        return Err(Refusal::NotConfigured);
     }
     let known = load_link(links, link);
     if known.state != OPEN {
-        return 5;
+        return Err(Refusal::Unfit);
     }
     if count(spans, link) <= known.sent as u16 {
-        return 5;
+        return Err(Refusal::Unfit);
     }
     if 127 <= known.sent {
-        return 5;
+        return Err(Refusal::Unfit);
     }
-    0
+    Ok(known)
 }
 
 // A management message as octets; how many they are.
@@ -110,19 +113,16 @@ pub fn send(
     ensures links_value { links.new ≡ Send.links_after (plan_of plan) links.old spans.now link (length out.old) }
     ensures out_value { out.new ≡ Send.out_after (plan_of plan) links.old spans.now rings.now rows.now octets.now link out.old }
 {
-    let reply = send_reply(plan, links, spans, link, out.len());
-    if 0 < reply {
-        return plain(reply);
-    }
-    let known = load_link(links, link);
+    let known = match sending_link(plan, links, spans, link, out.len()) {
+        Ok(known) => known,
+        Err(refusal) => return refused(refusal),
+    };
     let first = at(spans, rings, link, known.sent as u16);
     let many = write_slot(plan, rows, octets, first.slot, out);
     store_sent(links, link, next(known.sent));
     Answer {
-        reply: 0,
         fsn: next_number(known),
         octets: many,
-        reports: 0,
-        delivers: false,
+        ..done(0)
     }
 }

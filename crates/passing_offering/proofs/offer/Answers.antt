@@ -5,6 +5,7 @@ use mathlib.Core.Bool.{true}
 use mathlib.Core.Path.{ap}
 use Rattle.plan_words.specs.Words.{plan_at}
 use Rattle.route_ways.specs.declared.Direction.{Direction}
+use Rattle.replies.specs.Reply.{number_of}
 use Rattle.replies.specs.Areas.{areas}
 use Rattle.passing_passage.proofs.Flagged.{ring_there}
 use Rattle.passing_passage.proofs.Placing.{no_way, placed}
@@ -18,7 +19,7 @@ returns-then-label-code c =
     offer_refused (plan_at a.plan.now) a.label (areas a.links.now a.marks.now a.spans.now a.rings.now a.rows.now a.arrivals.now [])
     a.octets.now a.message.now
     (ours_refused (plan_at a.plan.now) a.label (areas a.links.now a.marks.now a.spans.now a.rings.now a.rows.now a.arrivals.now [])
-    (rw c.code.ensures at c.if-label-code.true)) c.plain.result c.plain.ensures
+    (rw c.code.ensures at c.if-label-code.true)) c.refused.result c.refused.ensures
     in
     record { leaves = left.0; octets_value = left.1 }
 
@@ -34,7 +35,7 @@ returns-then-to-ge-NO_LINK c =
     (rw c.code.ensures at c.if-label-code.false) true
     (no_way (plan_at a.plan.now) (areas a.links.now a.marks.now a.spans.now a.rings.now a.rows.now a.arrivals.now []) a.label need.result need.ensures
     to.result.link (ap (λ (d : Direction). d.link) to.ensures) c.if-to-ge-NO_LINK.true))
-    c.plain-then-to-ge-NO_LINK.result c.plain-then-to-ge-NO_LINK.ensures
+    c.refused-then-to-ge-NO_LINK.result c.refused-then-to-ge-NO_LINK.ensures
     in
     record { leaves = left.0; octets_value = left.1 }
 
@@ -50,11 +51,11 @@ returns c =
     a.octets.now a.message.now need.result need.ensures to.result.link (ap (λ (d : Direction). d.link) to.ensures) c.if-to-ge-NO_LINK.false
     ring.result
     (ring_there (plan_at a.plan.now) a.links.now a.marks.now need.result a.label to.result to.ensures ring.result ring.ensures)
-    q.result q.new.spans q.new.rings q.new.rows q.new.octets q.new.arrivals (q.ensures.value, (q.ensures.arrivals_value, q.ensures.octets_value))
+    (number_of q.result) q.new.spans q.new.rings q.new.rows q.new.octets q.new.arrivals (q.ensures.number, (q.ensures.arrivals_value, q.ensures.octets_value))
     in
     let left =
     offer_queued (plan_at a.plan.now) a.label (areas a.links.now a.marks.now a.spans.now a.rings.now a.rows.now a.arrivals.now [])
-    a.octets.now a.message.now (rw c.code.ensures at c.if-label-code.false) q.result
-    (areas a.links.now a.marks.now q.new.spans q.new.rings q.new.rows q.new.arrivals []) q.new.octets so c.plain-2.result c.plain-2.ensures
+    a.octets.now a.message.now (rw c.code.ensures at c.if-label-code.false) (number_of q.result)
+    (areas a.links.now a.marks.now q.new.spans q.new.rings q.new.rows q.new.arrivals []) q.new.octets so c.plain.result c.plain.ensures
     in
     record { leaves = left.0; octets_value = left.1 }

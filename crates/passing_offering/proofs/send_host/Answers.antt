@@ -14,7 +14,7 @@ returns-then-not-given c =
     let a = c.args in
     let left =
     no_node_lem (plan_at a.plan.now) a.octets.now a.message.now (areas a.links.now a.marks.now a.spans.now a.rings.now a.rows.now a.arrivals.now [])
-    (sym c.given.ensures ∙ c.if-not-given.true) c.plain.result c.plain.ensures
+    (sym c.given.ensures ∙ c.if-not-given.true) c.refused.result c.refused.ensures
     in
     record { leaves = left.0; octets_value = left.1 }
 
@@ -36,7 +36,7 @@ returns-in-Foreign c =
     let a = c.args in
     let left =
     kind_refused (plan_at a.plan.now) a.octets.now a.message.now (areas a.links.now a.marks.now a.spans.now a.rings.now a.rows.now a.arrivals.now [])
-    (sym c.given.ensures ∙ c.if-not-given.false) c.from_host.result c.from_host.ensures Foreign c.in-Foreign.is 4 refl refl c.plain-in-Foreign.result c.plain-in-Foreign.ensures
+    (sym c.given.ensures ∙ c.if-not-given.false) c.from_host.result c.from_host.ensures Foreign c.in-Foreign.is 4 refl refl c.refused-in-Foreign.result c.refused-in-Foreign.ensures
     in
     record { leaves = left.0; octets_value = left.1 }
 
@@ -46,7 +46,7 @@ returns-in-Malformed c =
     let a = c.args in
     let left =
     kind_refused (plan_at a.plan.now) a.octets.now a.message.now (areas a.links.now a.marks.now a.spans.now a.rings.now a.rows.now a.arrivals.now [])
-    (sym c.given.ensures ∙ c.if-not-given.false) c.from_host.result c.from_host.ensures Malformed c.in-Malformed.is 3 refl refl c.plain-in-Malformed.result c.plain-in-Malformed.ensures
+    (sym c.given.ensures ∙ c.if-not-given.false) c.from_host.result c.from_host.ensures Malformed c.in-Malformed.is 3 refl refl c.refused-in-Malformed.result c.refused-in-Malformed.ensures
     in
     record { leaves = left.0; octets_value = left.1 }
 
@@ -56,7 +56,7 @@ returns-in-Delivered c =
     let a = c.args in
     let left =
     kind_refused (plan_at a.plan.now) a.octets.now a.message.now (areas a.links.now a.marks.now a.spans.now a.rings.now a.rows.now a.arrivals.now [])
-    (sym c.given.ensures ∙ c.if-not-given.false) c.from_host.result c.from_host.ensures Delivered c.in-Delivered.is 3 refl refl c.plain-in-Delivered.result c.plain-in-Delivered.ensures
+    (sym c.given.ensures ∙ c.if-not-given.false) c.from_host.result c.from_host.ensures Delivered c.in-Delivered.is 3 refl refl c.refused-in-Delivered.result c.refused-in-Delivered.ensures
     in
     record { leaves = left.0; octets_value = left.1 }
 
@@ -66,6 +66,6 @@ returns-in-Managed c =
     let a = c.args in
     let left =
     kind_refused (plan_at a.plan.now) a.octets.now a.message.now (areas a.links.now a.marks.now a.spans.now a.rings.now a.rows.now a.arrivals.now [])
-    (sym c.given.ensures ∙ c.if-not-given.false) c.from_host.result c.from_host.ensures (Managed _) c.in-Managed.is 3 refl refl c.plain-in-Managed.result c.plain-in-Managed.ensures
+    (sym c.given.ensures ∙ c.if-not-given.false) c.from_host.result c.from_host.ensures (Managed _) c.in-Managed.is 3 refl refl c.refused-in-Managed.result c.refused-in-Managed.ensures
     in
     record { leaves = left.0; octets_value = left.1 }

@@ -15,7 +15,7 @@ returns-in-Malformed c =
     let a = c.args in
     let left =
     only_answered (plan_at a.plan.now) a.link a.fsn a.octets.now a.message.now (areas a.links.now a.marks.now a.spans.now a.rings.now a.rows.now a.arrivals.now a.reports.now)
-    c.from_link.result c.from_link.ensures Malformed c.in-Malformed.is (plain 3) refl refl c.plain.result c.plain.ensures
+    c.from_link.result c.from_link.ensures Malformed c.in-Malformed.is (plain 3) refl refl c.refused.result c.refused.ensures
     in
     record { leaves = left.0; octets_value = left.1 }
 
@@ -25,7 +25,7 @@ returns-in-Foreign c =
     let a = c.args in
     let left =
     only_answered (plan_at a.plan.now) a.link a.fsn a.octets.now a.message.now (areas a.links.now a.marks.now a.spans.now a.rings.now a.rows.now a.arrivals.now a.reports.now)
-    c.from_link.result c.from_link.ensures Foreign c.in-Foreign.is (plain 4) refl refl c.plain-in-Foreign.result c.plain-in-Foreign.ensures
+    c.from_link.result c.from_link.ensures Foreign c.in-Foreign.is (plain 4) refl refl c.refused-in-Foreign.result c.refused-in-Foreign.ensures
     in
     record { leaves = left.0; octets_value = left.1 }
 

@@ -10,7 +10,7 @@ returns-then-not-counts c =
     let a = c.args in
     no_effect (plan_at a.plan.now) a.point a.x a.prohibits
     (areas a.links.now a.marks.now a.spans.now a.rings.now a.rows.now a.arrivals.now a.reports.now)
-    c.counts.result c.counts.ensures c.if-not-counts.true c.plain.result c.plain.ensures
+    c.counts.result c.counts.ensures c.if-not-counts.true c.refused.result c.refused.ensures
 
 pub returns : goal.returns
 returns c =
