@@ -29,7 +29,7 @@ returns-in-Call c =
     called.ensures.sent_value called.new.out called.result called.ensures.result_after
     (omega (arith, ap length part.ensures, slice_long said.octets read.new.message)) sent_long reports_long wrapped.result wrapped.ensures.value
     in
-    record { result_after = left.desk_is; pending_bound_2 = left.within; out_unchanged = left.rest_is }
+    record { stays = search; result_after = left.desk_is; pending_bound_2 = left.within; out_unchanged = left.rest_is }
 
 pub returns-in-Asks : goal.returns-in-Asks
 returns-in-Asks c =
@@ -46,7 +46,7 @@ returns-in-Asks c =
     put.new.sent put.ensures.sent_after put.new.out put.result put.ensures.result_after (omega arith) (omega arith)
     wrapped.result wrapped.ensures.value
     in
-    record { result_after = left.desk_is; pending_bound_2 = left.within; out_unchanged = left.rest_is }
+    record { stays = search; result_after = left.desk_is; pending_bound_2 = left.within; out_unchanged = left.rest_is }
 
 pub returns-in-Unreadable : goal.returns-in-Unreadable
 returns-in-Unreadable c =
@@ -59,4 +59,4 @@ returns-in-Unreadable c =
     refusal_leaves (plan_at a.plan.now) a.view (slice a.at a.part.end a.text.now) a.part.next before a.message.now a.out.now a.place
     (omega arith) (omega arith) reads read.new.message read.ensures.message_after put.new.out put.result put.ensures
     in
-    record { result_after = left.desk_is; pending_bound_2 = left.within; out_unchanged = left.rest_is }
+    record { stays = search; result_after = left.desk_is; pending_bound_2 = left.within; out_unchanged = left.rest_is }

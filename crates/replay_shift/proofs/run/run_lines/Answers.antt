@@ -21,12 +21,12 @@ returns-then-not-fit c =
     ended (plan_at a.plan.now) a.view a.text.now a.from m a.message.now a.out.now m a.message.now a.out.now a.from
     (cond (sized d a.out.now) whole d) is (omega arith) refl refl
     in
-    record { value = all.0; out_after = all.1.0; sent_value = all.1.1.0; message_after = all.1.1.1 }
+    record { stays = search; value = all.0; out_after = all.1.0; sent_value = all.1.1.0; message_after = all.1.1.1 }
 
 pub loop-view-init : goal.loop-view-init
 loop-view-init c =
     let a = c.args in
-    begins (plan_at a.plan.now) a.view a.text.now a.from (memory_of a.areas.now a.reports.now a.sent.now) a.message.now a.out.now
+    (search, begins (plan_at a.plan.now) a.view a.text.now a.from (memory_of a.areas.now a.reports.now a.sent.now) a.message.now a.out.now)
 
 pub run_line-place-requires : goal.run_line-place-requires
 run_line-place-requires c =
@@ -75,11 +75,13 @@ loop-view-preserved c =
     in
     let on = sym c.goes_on.ensures ∙ c.if-not-goes_on.false in
     let long : length l.out ≡ length a.out.now = omega arith in
-    let long' : length ran.new.out ≡ length a.out.now = omega arith in
-    goes_further (plan_at a.plan.now) a.view a.text.now a.from (memory_of a.areas.now a.reports.now a.sent.now) a.message.now a.out.now sizes.out_is
-    (memory_of l.areas l.reports l.sent) l.message l.out l.place long l.invariant found.result found.ensures on
-    (memory_of ran.new.areas ran.new.reports ran.new.sent)
-    ran.new.message ran.new.out ran.result long' ran.ensures.result_after ran.ensures.pending_bound_2 ran.ensures.out_unchanged
+    let long' : length ran.new.out ≡ length a.out.now = omega arith in (
+      search,
+      goes_further (plan_at a.plan.now) a.view a.text.now a.from (memory_of a.areas.now a.reports.now a.sent.now) a.message.now a.out.now sizes.out_is
+          (memory_of l.areas l.reports l.sent) l.message l.out l.place long l.invariant.1 found.result found.ensures on
+          (memory_of ran.new.areas ran.new.reports ran.new.sent)
+          ran.new.message ran.new.out ran.result long' ran.ensures.result_after ran.ensures.pending_bound_2 ran.ensures.out_unchanged,
+    )
 
 pub returns : goal.returns
 returns c =
@@ -96,10 +98,10 @@ returns c =
     let long : length l.out ≡ length a.out.now = omega arith in
     let is =
     stops (plan_at a.plan.now) a.view a.text.now a.from m a.message.now a.out.now sizes.out_is
-    n l.message l.out l.place long l.invariant found.result found.ensures off
+    n l.message l.out l.place long l.invariant.1 found.result found.ensures off
     in
     let all =
     ended (plan_at a.plan.now) a.view a.text.now a.from m a.message.now a.out.now n l.message l.out l.place
-    (cond (sized d a.out.now) whole d) (is ∙ sym (ap (λ (t : Bool). cond t whole d) fits)) l.invariant.pending_is l.invariant.rest_is long
+    (cond (sized d a.out.now) whole d) (is ∙ sym (ap (λ (t : Bool). cond t whole d) fits)) l.invariant.1.pending_is l.invariant.1.rest_is long
     in
-    record { value = all.0; out_after = all.1.0; sent_value = all.1.1.0; message_after = all.1.1.1 }
+    record { stays = l.invariant.0; value = all.0; out_after = all.1.0; sent_value = all.1.1.0; message_after = all.1.1.1 }
