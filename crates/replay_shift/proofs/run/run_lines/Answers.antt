@@ -3,11 +3,25 @@
 use Rattle.std.proofs.Common.{◌≡◌, ◌≤◌, Bool, true, false, cond, length, sym, refl, ap, ◌∙◌, arith}
 use lib.Seq.{slice}
 use Rattle.plan_words.specs.Words.{plan_at}
+use Rattle.areas.specs.declared.Areas.{Areas}
+use Rattle.areas.specs.Lent.{Stays}
 use Rattle.node.specs.Memory.{memory_of}
 use Rattle.replay_shift.proofs.Lines.{less_left}
 use Rattle.replay_shift.specs.Shift.{desk_at, lines_from, ran_lines, sized}
 use Rattle.replay_shift.proofs.Going.{begins, goes_further, stops, ended, sizes_of, line_of, room_of, next_at}
 use Rattle.replay_shift.proofs.run.run_lines.Goals as goal
+
+-- the same areas over two calls
+stays_on : (a b c : Areas) → Stays a b → Stays b c → Stays a c
+stays_on a b c first then = (
+  then.0 ∙ first.0,
+  then.1.0 ∙ first.1.0,
+  then.1.1.0 ∙ first.1.1.0,
+  then.1.1.1.0 ∙ first.1.1.1.0,
+  then.1.1.1.1.0 ∙ first.1.1.1.1.0,
+  then.1.1.1.1.1.0 ∙ first.1.1.1.1.1.0,
+  then.1.1.1.1.1.1 ∙ first.1.1.1.1.1.1,
+)
 
 pub returns-then-not-fit : goal.returns-then-not-fit
 returns-then-not-fit c =
@@ -76,7 +90,7 @@ loop-view-preserved c =
     let on = sym c.goes_on.ensures ∙ c.if-not-goes_on.false in
     let long : length l.out ≡ length a.out.now = omega arith in
     let long' : length ran.new.out ≡ length a.out.now = omega arith in (
-      search,
+      stays_on a.areas.now l.areas ran.new.areas l.invariant.0 ran.ensures.stays,
       goes_further (plan_at a.plan.now) a.view a.text.now a.from (memory_of a.areas.now a.reports.now a.sent.now) a.message.now a.out.now sizes.out_is
           (memory_of l.areas l.reports l.sent) l.message l.out l.place long l.invariant.1 found.result found.ensures on
           (memory_of ran.new.areas ran.new.reports ran.new.sent)
