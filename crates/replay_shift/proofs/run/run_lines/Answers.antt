@@ -15,12 +15,12 @@ use Rattle.replay_shift.proofs.run.run_lines.Goals as goal
 stays_on : (a b c : Areas) → Stays a b → Stays b c → Stays a c
 stays_on a b c first then = (
   then.0 ∙ first.0,
-  then.1.0 ∙ first.1.0,
-  then.1.1.0 ∙ first.1.1.0,
-  then.1.1.1.0 ∙ first.1.1.1.0,
-  then.1.1.1.1.0 ∙ first.1.1.1.1.0,
-  then.1.1.1.1.1.0 ∙ first.1.1.1.1.1.0,
-  then.1.1.1.1.1.1 ∙ first.1.1.1.1.1.1,
+  then.1 ∙ first.1,
+  then.2 ∙ first.2,
+  then.3 ∙ first.3,
+  then.4 ∙ first.4,
+  then.5 ∙ first.5,
+  then.6 ∙ first.6,
 )
 
 pub returns-then-not-fit : goal.returns-then-not-fit
