@@ -105,3 +105,10 @@ module _ (plan : Plan) (code place : ℕ) where
 
   pub found_err : Err place ≡ found_of plan code → (is_found plan code ≡ false) × (place ≡ place_of plan code)
   found_err = err_of place (place_of plan code) (is_found plan code)
+
+  -- a destination that is found stands in the table
+  pub found_below : Ok place ≡ found_of plan code → place < 64
+  found_below e =
+      let found = found_ok e in
+      let both = (and-eq-true_iff (ltb (place_of plan code) (given plan)) (eqb (code_at plan.destinations (place_of plan code)) code)).0 found.0 in
+      omega (arith, found.1, ltb-true (place_of plan code) (given plan) both.0)

@@ -1,8 +1,9 @@
 -- Where a code stands, or would stand, among destinations that are in ascending code: found by halving.
-use Rattle.std.specs.Prelude.{ℕ, zero, suc, ◌+◌, ◌-◌, ◌/◌, min, Bool, cond, ◌&&◌, List, get_or, ltb, eqb, Result, Ok, Err}
+use Rattle.std.specs.Prelude.{ℕ, zero, suc, ◌+◌, ◌-◌, ◌/◌, min, Bool, cond, ◌&&◌, List, get_or, replicate, ltb, eqb, Result, Ok, Err}
 use Rattle.plan.specs.declared.data.Plan.{Plan}
 use Rattle.plan.specs.declared.data.Destination.{Destination}
-use Rattle.plan.specs.Data.{absent_destination}
+use Rattle.plan.specs.declared.find.There.{There}
+use Rattle.plan.specs.Data.{absent_destination, absent_route, routes_of}
 
 -- the code of the destination at a place
 abbrev pub code_at : List Destination → ℕ → ℕ
@@ -34,3 +35,11 @@ is_found plan code = ltb (place_of plan code) (given plan) && eqb (code_at plan.
 -- the place of the destination that has the code, Ok; if none has, where one would have to be put in, Err
 abbrev pub found_of : Plan → ℕ → Result ℕ ℕ
 found_of plan code = cond (is_found plan code) (Ok (place_of plan code)) (Err (place_of plan code))
+
+-- both, with the routes of the destination that is given there
+abbrev pub there_of : Plan → ℕ → There
+there_of plan code =
+    record {
+      found = found_of plan code;
+      routes = cond (ltb (place_of plan code) (given plan)) (routes_of plan (place_of plan code)) (replicate 4 absent_route);
+    }

@@ -19,3 +19,8 @@ fields_of Node = 3
 fields_of Set = 3
 fields_of Link = 4
 fields_of Route = 4
+
+-- the same by the word that a text is; no line begins with a text that is none of them
+abbrev pub fields_in : Option Word → ℕ
+fields_in (Some word) = fields_of word
+fields_in None = 0

@@ -45,3 +45,13 @@ pub fn fields(word: Word) -> u8
         Word::Route => 4,
     }
 }
+
+// The same by the word that a text is; 0 where no line begins with the text.
+pub fn fields_in(word: Option<Word>) -> u8
+    ensures { result ≡ Words.fields_in word }
+{
+    match word {
+        Some(word) => fields(word),
+        None => 0,
+    }
+}

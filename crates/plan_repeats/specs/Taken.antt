@@ -1,5 +1,5 @@
 -- What is taken already, which a statement would repeat.
-use Rattle.std.specs.Prelude.{ℕ, Bool, ◌&&◌, cond, List, eqb, ltb, Option, Some, None}
+use Rattle.std.specs.Prelude.{ℕ, Bool, ◌&&◌, cond, List, eqb, ltb, Option, Some, None, Result, Ok, Err}
 use Rattle.plan.specs.declared.data.Plan.{Plan}
 use Rattle.plan.specs.declared.data.LinkSet.{LinkSet}
 use Rattle.plan.specs.declared.data.Route.{Route}
@@ -17,6 +17,10 @@ slc_taken plan links slc = one (λ (link : ℕ). eqb (link_at plan link).slc slc
 -- how many of some links have a lower SLC: the place of a new one among them, "in SLC order" (R76)
 abbrev pub lower : Plan → List ℕ → ℕ → ℕ
 lower plan links slc = many (λ (link : ℕ). ltb (link_at plan link).slc slc) links
+
+-- the same, Ok; where one of the links has the SLC, Err (R76, R171)
+abbrev pub among : Plan → List ℕ → ℕ → Result ℕ ℕ
+among plan links slc = cond (slc_taken plan links slc) (Err (lower plan links slc)) (Ok (lower plan links slc))
 
 -- the place of a new SLC among some links, none where one of them has it (R76, R171)
 abbrev pub place_among : Plan → List ℕ → ℕ → Option ℕ

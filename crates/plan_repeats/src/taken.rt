@@ -25,29 +25,36 @@ pub fn set_taken(routes: [Route; 4], set: u8) -> bool
 pub fn place_among(plan: Plan, set: usize, slc: u8) -> Option<usize>
     ensures { result ≡ Taken.place_among plan (links_of plan set) slc }
 {
+    among(plan, set, slc).ok()
+}
+
+// How many links of a set have a lower SLC than a new one, whose place that is; `Err` where one of its links has it.
+pub fn among(plan: Plan, set: usize, slc: u8) -> Result<usize, usize>
+    ensures { result ≡ Taken.among plan (links_of plan set) slc }
+{
     if 8 <= set {
-        return Some(0);
+        return Ok(0);
     }
     let those = plan.sets[set];
     let links = those.links;
-    place_beside(plan, links, those.count, slc)
+    beside_each(plan, links, those.count, slc)
 }
 
-// Its place among those of the first `count` of eight links.
-fn place_beside(plan: Plan, links: [u8; 8], count: u8, slc: u8) -> Option<usize>
-    ensures { result ≡ Taken.place_among plan (take count links) slc }
+// How many of the first `count` of eight links have a lower SLC, and whether one has it.
+fn beside_each(plan: Plan, links: [u8; 8], count: u8, slc: u8) -> Result<usize, usize>
+    ensures { result ≡ Taken.among plan (take count links) slc }
 {
     let m = (count as usize).min(8);
     let mut lower = 0;
+    let mut taken = false;
     for i in 0..m {
         let of = slc_of(plan, links[i]);
         if of < slc {
             lower += 1;
-        } else if of == slc {
-            return None;
         }
+        taken = taken || of == slc;
     }
-    Some(lower)
+    if taken { Err(lower) } else { Ok(lower) }
 }
 
 // The SLC of a link, 0 past the table's end.

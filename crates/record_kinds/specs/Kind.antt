@@ -1,5 +1,5 @@
 -- "A line is a kind and its fields" (docs/FORMATS.md): what stands behind each kind.
-use Rattle.std.specs.Prelude.{ℕ}
+use Rattle.std.specs.Prelude.{ℕ, Option, Some, None}
 use Rattle.record_kinds.specs.declared.Kind.{Kind}
 use Rattle.record_kinds.specs.declared.Kind.TheVariants.{Service, Failure, Send, Acknowledged, Received, Host, Routes, T1, T2, T3, T4, T6, T8, T10}
 use Rattle.record_kinds.specs.declared.Form.{Form}
@@ -29,3 +29,8 @@ fields_of OneNumber = 2
 fields_of TwoNumbers = 3
 fields_of Message = 2
 fields_of TwoNumbersAndMessage = 4
+
+-- the same by the kind that a word names; no line begins with a word that names none
+abbrev pub fields_in : Option Kind → ℕ
+fields_in (Some kind) = fields_of (form_of kind)
+fields_in None = 0

@@ -66,3 +66,13 @@ pub fn fields_of(form: Form) -> u8
         Form::TwoNumbersAndMessage => 4,
     }
 }
+
+// How many fields a line has whose first word was read as a kind, that word among them; 0 where no line begins with it.
+pub fn fields_in(kind: Option<Kind>) -> u8
+    ensures { result ≡ Kind·.fields_in kind }
+{
+    match kind {
+        Some(kind) => fields_of(form_of(kind)),
+        None => 0,
+    }
+}

@@ -10,5 +10,5 @@ use Rattle.plan_repeats.proofs.taken.adjacent_taken.Goals as goal
 
 pub returns : goal.returns
 returns c =
-    any_from_yields_List (λ (those : LinkSet). those.given && eqb those.adjacent c.args.adjacent) _ _ _ c.any.ensures.ran (YieldsList-from_slice c.args.sets cc) (λ x b q k. search (rules, tests))
+    any_from_yields_List (λ (those : LinkSet). those.given && eqb those.adjacent c.args.adjacent) _ _ _ c.any.ensures.ran (YieldsList-from_slice c.args.sets (search rules)) (λ x b q k. search (rules, tests))
     ∙ any_one _ c.args.sets

@@ -10,5 +10,5 @@ use Rattle.plan_repeats.proofs.taken.set_taken.Goals as goal
 
 pub returns : goal.returns
 returns c =
-    any_from_yields_List (λ (route : Route). route.given && eqb route.set c.args.set) _ _ _ c.any.ensures.ran (YieldsList-from_slice c.args.routes cc) (λ x b q k. search (rules, tests))
+    any_from_yields_List (λ (route : Route). route.given && eqb route.set c.args.set) _ _ _ c.any.ensures.ran (YieldsList-from_slice c.args.routes (search rules)) (λ x b q k. search (rules, tests))
     ∙ any_one _ c.args.routes
