@@ -10,7 +10,7 @@ ghost use Rattle.management_orders.specs.Carry as Carry;
 use changeover_ending::end_service;
 use management_making::make;
 use management_steps::Step;
-use replies::{Answer, Refusal, done, refused};
+use replies::{Answer, Refusal, done, plain, refused};
 
 // The answer of a step, if it has one; refused where it finds no place or number.
 fn give_answer(
@@ -51,10 +51,7 @@ pub fn carry_out(
         (after links.new marks.now spans.new rings.new rows.new arrivals.new reports.new) }
 {
     if 0 < step.reply {
-        return Answer {
-            reply: step.reply,
-            ..done(0)
-        };
+        return plain(step.reply);
     }
     if let Err(refusal) = give_answer(
         plan, links, marks, spans, rings, rows, arrivals, step, reports,

@@ -12,7 +12,7 @@ use changeover::fail;
 use changeover_overdue::expire;
 use passing_offering::send_host;
 use receiving::receive;
-use replies::{Answer, plain};
+use replies::{Answer, answered};
 use rerouting::timer::{expire_t6, expire_t10};
 use rerouting_expiry::expire_t8;
 use sending::send;
@@ -67,7 +67,9 @@ pub fn call(
             plan, links, marks, spans, rings, rows, arrivals, link, reports,
         ),
         Event::Send(link) => send(plan, links, spans, rings, rows, octets, link, out),
-        Event::Acknowledgement(link, b) => plain(acknowledge(plan, links, spans, rings, link, b)),
+        Event::Acknowledgement(link, b) => answered(acknowledge(
+            plan, links, spans, rings, link, b,
+        )),
         Event::Received(link, fsn) => receive(
             plan, links, marks, spans, rings, rows, octets, arrivals, link, fsn, message, reports,
         ),
@@ -76,10 +78,10 @@ pub fn call(
         ),
         Event::T1(link) => expire(plan, links, marks, spans, rings, rows, link, 1, reports),
         Event::T2(link) => expire(plan, links, marks, spans, rings, rows, link, 2, reports),
-        Event::T3(link) => plain(expire_wait(plan, links, link, 3)),
-        Event::T4(link) => plain(expire_wait(plan, links, link, 4)),
+        Event::T3(link) => answered(expire_wait(plan, links, link, 3)),
+        Event::T4(link) => answered(expire_wait(plan, links, link, 4)),
         Event::T6(x) => expire_t6(plan, links, marks, spans, rings, rows, x, reports),
-        Event::T8(x) => plain(expire_t8(plan, marks, x)),
+        Event::T8(x) => answered(expire_t8(plan, marks, x)),
         Event::T10(x, set) => expire_t10(plan, links, marks, spans, rings, rows, arrivals, x, set),
     }
 }

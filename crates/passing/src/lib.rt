@@ -10,7 +10,7 @@ use constants::NO_LINK;
 use management_making::make;
 use passing_passage::{prohibited_to, ring_of, start_t8, tells};
 use queue_joining::queue_user;
-use replies::{Answer, Refusal, plain, refused};
+use replies::{Answer, Refusal, answered, refused};
 use route_ways::{directed, for_users};
 use wire::header::Label;
 
@@ -72,7 +72,7 @@ pub fn pass_on(
         );
     }
     let ring = ring_of(marks, to);
-    plain(queue_user(
+    answered(queue_user(
         spans, rings, rows, octets, arrivals, ring, label.dpc, label.sls, message,
     ))
 }

@@ -11,7 +11,7 @@ use discrimination::{Came, from_host};
 use passing_passage::ring_of;
 use plan_words::read::{code, given};
 use queue_joining::queue_user;
-use replies::{Answer, Refusal, plain, refused};
+use replies::{Answer, Refusal, answered, refused};
 use route_ways::{directed, for_users};
 use wire::header::Label;
 
@@ -41,7 +41,7 @@ fn offer(
         return refused(Refusal::Inaccessible);
     }
     let ring = ring_of(marks, to);
-    plain(queue_user(
+    answered(queue_user(
         spans, rings, rows, octets, arrivals, ring, label.dpc, label.sls, message,
     ))
 }

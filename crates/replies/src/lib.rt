@@ -78,23 +78,24 @@ pub fn number(told: Result<(), Refusal>) -> u8
 }
 
 // A reply that writes nothing.
-pub fn plain(told: Result<(), Refusal>) -> Answer
+pub fn plain(reply: u8) -> Answer
+    ensures { result ≡ Reply.plain reply }
+{
+    Answer { reply, ..done(0) }
+}
+
+// What was decided, with nothing written.
+pub fn answered(told: Result<(), Refusal>) -> Answer
     ensures { result ≡ Reply.plain (Reply.number_of told) }
 {
-    Answer {
-        reply: number(told),
-        ..done(0)
-    }
+    plain(number(told))
 }
 
 // Refused, with nothing written.
 pub fn refused(refusal: Refusal) -> Answer
     ensures { result ≡ Reply.plain (Reply.number refusal) }
 {
-    Answer {
-        reply: refusal.number(),
-        ..done(0)
-    }
+    plain(refusal.number())
 }
 
 // Done, with so many reports.

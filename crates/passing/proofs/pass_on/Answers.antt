@@ -1,5 +1,6 @@
 -- `passing::pass_on` meets its contract: with no way it goes as one that can't be reached, with one by the place that it finds.
 -- Assumes nothing.
+use Rattle.std.proofs.Common.{rules}
 use mathlib.Core.Path.{ap}
 use Rattle.plan_words.specs.Words.{plan_at}
 use Rattle.route_ways.specs.declared.Direction.{Direction}
@@ -43,6 +44,6 @@ returns c =
     passed_by (plan_at a.plan.now) a.arriving a.label
     (areas a.links.now a.marks.now a.spans.now a.rings.now a.rows.now a.arrivals.now a.reports.now) a.octets.now a.message.now
     (number_of q.result) (areas a.links.now a.marks.now q.new.spans q.new.rings q.new.rows q.new.arrivals a.reports.now) q.new.octets so
-    c.plain.result c.plain.ensures
+    c.answered.result (search rules)
     in
     record { leaves = left.0; octets_value = left.1 }

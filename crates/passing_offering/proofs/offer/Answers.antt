@@ -56,6 +56,6 @@ returns c =
     let left =
     offer_queued (plan_at a.plan.now) a.label (areas a.links.now a.marks.now a.spans.now a.rings.now a.rows.now a.arrivals.now [])
     a.octets.now a.message.now (rw c.code.ensures at c.if-label-code.false) (number_of q.result)
-    (areas a.links.now a.marks.now q.new.spans q.new.rings q.new.rows q.new.arrivals []) q.new.octets so c.plain.result c.plain.ensures
+    (areas a.links.now a.marks.now q.new.spans q.new.rings q.new.rows q.new.arrivals []) q.new.octets so c.answered.result c.answered.ensures
     in
     record { leaves = left.0; octets_value = left.1 }

@@ -44,7 +44,7 @@ returns-in-Acknowledgement-clause-gives c =
     let e = c.in-Acknowledgement in
     let o = c.acknowledge in
     told_as (plan_at a.plan.now) a.message.now (memory_of a.areas.now a.reports.now a.out.now) a.event (Acknowledgement e.link e.b) e.is _ _
-    (gives_acknowledgement (plan_at a.plan.now) (memory_of a.areas.now a.reports.now a.out.now) e.link e.b (number_of o.result) o.new.links o.new.spans o.new.rings (o.ensures.number, (o.ensures.links_value, o.ensures.rings_value)) c.plain.result c.plain.ensures)
+    (gives_acknowledgement (plan_at a.plan.now) (memory_of a.areas.now a.reports.now a.out.now) e.link e.b (number_of o.result) o.new.links o.new.spans o.new.rings (o.ensures.number, (o.ensures.links_value, o.ensures.rings_value)) c.answered.result c.answered.ensures)
 
 pub returns-in-Received-clause-gives : goal.returns-in-Received-clause-gives
 unfolding call_of receives
@@ -90,7 +90,7 @@ returns-in-T3-clause-gives c =
     let e = c.in-T3 in
     let o = c.expire_wait in
     told_as (plan_at a.plan.now) a.message.now (memory_of a.areas.now a.reports.now a.out.now) a.event (T3 e.link) e.is _ _
-    (gives_wait (plan_at a.plan.now) (memory_of a.areas.now a.reports.now a.out.now) e.link 3 (number_of o.result) o.new.links (o.ensures.number, o.ensures.links_after) c.plain-in-T3.result c.plain-in-T3.ensures)
+    (gives_wait (plan_at a.plan.now) (memory_of a.areas.now a.reports.now a.out.now) e.link 3 (number_of o.result) o.new.links (o.ensures.number, o.ensures.links_after) c.answered-in-T3.result c.answered-in-T3.ensures)
 
 pub returns-in-T4-clause-gives : goal.returns-in-T4-clause-gives
 unfolding call_of
@@ -99,7 +99,7 @@ returns-in-T4-clause-gives c =
     let e = c.in-T4 in
     let o = c.expire_wait-in-T4 in
     told_as (plan_at a.plan.now) a.message.now (memory_of a.areas.now a.reports.now a.out.now) a.event (T4 e.link) e.is _ _
-    (gives_wait (plan_at a.plan.now) (memory_of a.areas.now a.reports.now a.out.now) e.link 4 (number_of o.result) o.new.links (o.ensures.number, o.ensures.links_after) c.plain-in-T4.result c.plain-in-T4.ensures)
+    (gives_wait (plan_at a.plan.now) (memory_of a.areas.now a.reports.now a.out.now) e.link 4 (number_of o.result) o.new.links (o.ensures.number, o.ensures.links_after) c.answered-in-T4.result c.answered-in-T4.ensures)
 
 pub returns-in-T6-clause-gives : goal.returns-in-T6-clause-gives
 unfolding call_of
@@ -117,7 +117,7 @@ returns-in-T8-clause-gives c =
     let e = c.in-T8 in
     let o = c.expire_t8 in
     told_as (plan_at a.plan.now) a.message.now (memory_of a.areas.now a.reports.now a.out.now) a.event (T8 e.x) e.is _ _
-    (gives_t8 (plan_at a.plan.now) (memory_of a.areas.now a.reports.now a.out.now) e.x (number_of o.result) o.new.marks (o.ensures.number, o.ensures.marks_after) c.plain-in-T8.result c.plain-in-T8.ensures)
+    (gives_t8 (plan_at a.plan.now) (memory_of a.areas.now a.reports.now a.out.now) e.x (number_of o.result) o.new.marks (o.ensures.number, o.ensures.marks_after) c.answered-in-T8.result c.answered-in-T8.ensures)
 
 pub returns-in-T10-clause-gives : goal.returns-in-T10-clause-gives
 unfolding call_of
