@@ -94,7 +94,7 @@ fsn_of word = cond (eqb word 0) None (Some (word - 1))
 
 abbrev pub word_of_fsn : Option ℕ → ℕ
 word_of_fsn None = 0
-word_of_fsn (Some fsn) = fsn % 128 + 1
+word_of_fsn (Some fsn) = fsn % 255 + 1
 
 -- a move: in one word the number that the message left with if it is sent again, and the links that it went from and to, the first the highest part; in the
 -- next the line of the record

@@ -1,2 +1,2 @@
-// The circuit that a message is about.
-pub use trace_circuits::circuit::circuit_of;
+// Whether a message is about a circuit, and about which.
+pub use trace_circuits::circuit::{circuit_in, circuit_of, has_circuit};

@@ -161,7 +161,7 @@ fn word_of_fsn(fsn: Option<u64>) -> u64
     ensures { result ≡ word_of_fsn fsn }
 {
     match fsn {
-        Some(fsn) => fsn % 128 + 1,
+        Some(fsn) => fsn % 255 + 1,
         None => 0,
     }
 }
