@@ -99,3 +99,9 @@ module _ (octets : List ℕ) (slot size : ℕ) where
   copy_all out h k =
       let room = le-leb size (length out) k in
       (simp (h, room), simp (h, room))
+
+  -- the same octet by octet, set in the output from its start on
+  pub copy_set : (out : List ℕ) → fits slot size ≡ true → size ≤ length out → sets out 0 (octets_at octets slot size) ≡ copied octets slot size out
+  copy_set out h k =
+      let all = octets_length in
+      sets-eq (octets_at octets slot size) out 0 (omega (arith, all)) ∙ simp (zero-add, all) (copy_all out h k).1

@@ -5,7 +5,7 @@ ghost use Rattle.queue_slots.specs.Message as Message;
 use area_slots::{Slot, store_slot};
 
 // A user message into its slot; one that is too long, or a slot of management messages, is refused.
-#[tactic(auto, using(crate::proofs::Messages::fits_not_slot, crate::proofs::Messages::fits_not_size, crate::proofs::Messages::fits_there), unfolding(crate::specs::Message::user_rows, crate::specs::Message::user_octets))]
+#[tactic(auto, using(queue_rings::proofs::Runs::sets_next, crate::proofs::Messages::fits_not_slot, crate::proofs::Messages::fits_not_size, crate::proofs::Messages::fits_there), unfolding(crate::specs::Message::user_rows, crate::specs::Message::user_octets))]
 pub fn write_user(
     rows: &mut [u64; 2048],
     octets: &mut [u8; 52416],
@@ -26,7 +26,9 @@ pub fn write_user(
         return false;
     }
     let to = 273 * (slot as usize);
-    octets[to..to + message.len()].copy_from_slice(message);
+    for i in 0..message.len() {
+        octets[to + i] = message[i];
+    }
     store_slot(
         rows,
         slot,
@@ -68,7 +70,7 @@ pub fn write_management(
 }
 
 // The octets of a user slot to the start of an output, if it has room for them all; how many they are.
-#[tactic(auto, using(crate::proofs::Messages::fits_not_slot, crate::proofs::Messages::fits_not_size, crate::proofs::Messages::fits_there, crate::proofs::Messages::octets_at_lem, crate::proofs::Messages::octets_length, crate::proofs::Messages::copies_not, crate::proofs::Messages::copies_short, crate::proofs::Messages::copy_all), unfolding(crate::specs::Message::copied_size, crate::specs::Message::copied))]
+#[tactic(auto, using(queue_rings::proofs::Runs::sets_next, crate::proofs::Messages::fits_not_slot, crate::proofs::Messages::fits_not_size, crate::proofs::Messages::fits_there, crate::proofs::Messages::octets_at_lem, crate::proofs::Messages::octets_length, crate::proofs::Messages::copies_not, crate::proofs::Messages::copies_short, crate::proofs::Messages::copy_all), unfolding(crate::specs::Message::copied_size, crate::specs::Message::copied))]
 pub fn copy_octets(octets: &[u8; 52416], slot: u8, size: usize, out: &mut [u8]) -> usize
     ensures value { result ≡ Message.copied_size slot size (length out.old) }
     ensures out_after { out.new ≡ Message.copied octets.now slot size out.old }
@@ -83,6 +85,8 @@ pub fn copy_octets(octets: &[u8; 52416], slot: u8, size: usize, out: &mut [u8]) 
         return 0;
     }
     let from = 273 * (slot as usize);
-    out[..size].copy_from_slice(&octets[from..from + size]);
+    for i in 0..size {
+        out[i] = octets[from + i];
+    }
     size
 }
