@@ -1,8 +1,8 @@
 -- `start::empty_marks` meets its contract: every word is 0.
 -- Assumes nothing.
-use mathlib.Core.Path.{◌∙◌}
+use Rattle.std.proofs.Common.{rules}
 use Rattle.queue_store.proofs.Emptying.{all_emptied}
 use Rattle.start.proofs.empty_marks.Goals as goal
 
 pub returns : goal.returns
-returns c = c.fill.ensures.after (λ y same. same) ∙ all_emptied c.args.marks.now 512 c.told-marks
+returns c = search (rules, all_emptied)
